@@ -1,3 +1,4 @@
 pub mod Columns
 pub mod Kinds
+pub mod Pairs
 pub mod Wholes

@@ -4,7 +4,8 @@ ghost use mathlib.Core.Bool.{true};
 ghost use Prim.Native.Nat.{ℕ};
 ghost use Rattle.kinds.specs.Columns.{fits64};
 ghost use Rattle.kinds.specs.Kinds.{Name, cents, pieces, code};
-ghost use Rattle.kinds.specs.Wholes.{whole, Sound};
+ghost use Rattle.kinds.specs.Wholes.{whole, Sound, cents-bound, pieces-bound};
+use crate::one_column::OneColumn;
 use crate::total::Total;
 use std::cmp::Ordering;
 
@@ -29,7 +30,7 @@ pub trait Unit: Copy {
 pub struct CentsUnit;
 
 pub impl Unit for CentsUnit as CentsIsUnit {
-    ghost bound = { 1_000_000_000_000 };
+    ghost bound = { cents-bound };
 
     ghost name = { cents };
 
@@ -50,7 +51,7 @@ pub impl Unit for CentsUnit as CentsIsUnit {
 pub struct PiecesUnit;
 
 pub impl Unit for PiecesUnit as PiecesIsUnit {
-    ghost bound = { 1_000_000_000 };
+    ghost bound = { pieces-bound };
 
     ghost name = { pieces };
 
@@ -133,10 +134,16 @@ pub impl<U: Unit> Total for Whole<U> as WholeIsTotal {
     }
 
     fn replace(self, number: u8, value: i64) -> Option<Whole<U>> {
-        if number == 1 { Some(Whole::<U>::new(value)) } else { None }
+        if number == 1 {
+            Some(Whole::<U>::new(value))
+        } else {
+            None
+        }
     }
 
     fn name(number: u8) -> u8 {
         if number == 1 { U::name_code() } else { 0 }
     }
 }
+
+pub impl<U: Unit> OneColumn for Whole<U> as WholeIsOneColumn {}

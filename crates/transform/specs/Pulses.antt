@@ -39,10 +39,10 @@ change K before after d =
     let test : ℕ → Bool = changed K (trace K before) (trace K after) in
     cond (begins test d)
     (record {
-        first = d;
-        width = unbroken test (length before) d;
-        amount = minus (K .arity) (trace K before d) (trace K after d)
-      } ∷ [])
+      first = d;
+      width = unbroken test (length before) d;
+      amount = minus (K .arity) (trace K before d) (trace K after d);
+    } ∷ [])
     []
 
 -- all of them, by rising first day
