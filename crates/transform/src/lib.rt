@@ -1,7 +1,5 @@
-ghost use Rattle.transform.specs.Examples.{AllRight, examples};
+// The transform by windows: its definition stands in specs/, and here are the theorems about it,
+// each on the contract of a function.
+mod examples;
 
-pub fn worked_examples_hold() -> u8
-    ensures { λ _. ⌜ AllRight examples ⌝ }
-{
-    0
-}
+pub use examples::worked_examples_hold;
