@@ -1,3 +1,4 @@
-pub mod Windows
-pub mod Pulses
 pub mod Examples
+pub mod Pulses
+pub mod Theory
+pub mod Windows

@@ -1,0 +1,13 @@
+pub mod Order
+pub mod Windows
+pub mod Smooths
+pub mod Passes
+pub mod Group
+pub mod Levels
+pub mod Sums
+pub mod Listing
+pub mod Stages
+pub mod Counts
+pub mod Swings
+pub mod Choosing
+pub mod Runs
