@@ -1,19 +1,18 @@
 -- Choices among the pulses of a record: different ones have different sums, and no two pulses
 -- cover the same days.
 use mathlib.Core.Path.{_≡_, refl, sym, ap, _∙_, subst}
-use mathlib.Core.Logic.{inl, inr, _⊎_}
-use mathlib.Core.Bool.{Bool, true, false}
+use mathlib.Core.Logic.{inl, inr}
+use mathlib.Core.Bool.{Bool}
 use mathlib.Core.List.{List, [], _∷_}
-use Prim.Native.Nat.{ℕ, zero, suc, _+_, _≤_, _<_}
+use Prim.Native.Nat.{ℕ, zero, suc, _+_, _<_}
 use native.Mathlib.Omega.{arith}
 use lib.ListN.{length, getD}
 use Rattle.std.specs.shelf.Lists.{All, Has}
-use Rattle.std.proofs.shelf.Elements.{all-weaker}
-use Rattle.kinds.specs.Kinds.{Kind, Of, Lawful}
+use Rattle.kinds.specs.Kinds.{Kind, Lawful}
 use Rattle.transform.specs.Windows.{Record, Trace}
 use Rattle.transform.specs.Pulses.{Pulse, pulses, chosen, standing}
 use Rattle.transform.specs.Theory.{Each-later}
-use Rattle.transform.proofs.Levels.{block, cut, Levels, Step, either-step}
+use Rattle.transform.proofs.Levels.{Levels, either-step}
 use Rattle.transform.proofs.Sums.{shape, numbered, flags, chosen-numbered, follows-still, levels-differ}
 use Rattle.transform.proofs.Stages.{pulses-level}
 

@@ -1,13 +1,13 @@
 -- How many pulses a levelling can have: each stills a boundary at which the trace moved, and the
 -- last one two.
-use mathlib.Core.Path.{_≡_, refl, sym, ap, _∙_}
-use mathlib.Core.Logic.{inl, inr, _⊎_}
+use mathlib.Core.Path.{_≡_, sym, ap, _∙_}
+use mathlib.Core.Logic.{inl, inr}
 use mathlib.Core.Bool.{Bool, true, false, cond, _||_}
 use mathlib.Core.List.{List, [], _∷_}
 use Prim.Native.Nat.{ℕ, zero, suc, _+_, _≤_, _<_}
 use native.Mathlib.Omega.{arith}
 use lib.ListN.{length}
-use Rattle.std.proofs.shelf.Tests.{cases-lt, cases-bool, both-ways, or-from, or-parts}
+use Rattle.std.proofs.shelf.Tests.{cases-lt, cases-bool, or-from, or-parts}
 use Rattle.kinds.specs.Kinds.{Kind, Of, Lawful}
 use Rattle.transform.specs.Windows.{Record, Trace, trace}
 use Rattle.transform.specs.Pulses.{Pulse, pulses}

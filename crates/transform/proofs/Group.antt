@@ -1,7 +1,6 @@
 -- The laws of adding and taking away column by column, and of the order and of sizes with them.
-use mathlib.Core.Path.{_≡_, refl, sym, ap, _∙_}
+use mathlib.Core.Path.{_≡_, sym, ap, _∙_}
 use mathlib.Core.Logic.{inl, inr, _⊎_}
-use mathlib.Core.Bool.{Bool, true, false, cond}
 use native.Mathlib.Omega.{arith}
 use Rattle.std.proofs.shelf.Tests.{cases-bool, cond-true, cond-false, both-ways}
 use Rattle.std.proofs.shelf.Signed.{ints}
@@ -9,7 +8,7 @@ use Rattle.kinds.specs.Columns.{Arity, one, two, Columns, nought, plus, minus}
 use Rattle.kinds.specs.Kinds.{Kind, Of, Lawful}
 use Rattle.transform.specs.Pulses.{size}
 use Rattle.transform.specs.Theory.{turned}
-use Rattle.transform.proofs.Order.{Below, AtMost, turned-lawful, not-below, at-most-trans}
+use Rattle.transform.proofs.Order.{AtMost, at-most-trans}
 
 both : {A B : Type 0} {p q : A × B} → p .0 ≡ q .0 → p .1 ≡ q .1 → p ≡ q
 both e f = λ i. (e i, f i)

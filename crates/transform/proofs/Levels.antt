@@ -1,21 +1,20 @@
 -- One levelling after another: each pulse takes a bump of the trace so far down to the higher of
 -- its neighbours, or a pit up to the lower of them.
-use mathlib.Core.Path.{_≡_, refl, sym, ap, _∙_}
+use mathlib.Core.Path.{_≡_, sym, _∙_}
 use mathlib.Core.Logic.{inl, inr, _⊎_}
-use mathlib.Core.Bool.{Bool, true, false, cond, _&&_}
-use mathlib.Core.List.{List, [], _∷_, _++_}
-use Prim.Native.Nat.{ℕ, zero, suc, _+_, _-_, _≤_, _<_}
+use mathlib.Core.Bool.{cond, _&&_}
+use mathlib.Core.List.{List, [], _∷_}
+use Prim.Native.Nat.{ℕ, suc, _+_, _≤_, _<_}
 use native.Mathlib.Omega.{arith}
 use lib.Dec.{leb, ltb}
-use Rattle.std.proofs.shelf.Tests.{cases-lt, cases-order, cases-bool, cond-true, cond-false, and-from, and-left, and-right, le-leb, lt-leb, lt-ltb, le-ltb}
-use Rattle.kinds.specs.Columns.{Arity, Columns, nought, plus, minus}
+use Rattle.std.proofs.shelf.Tests.{cases-order, cases-bool, cond-true, cond-false, and-from, and-left, and-right, le-leb, lt-leb, lt-ltb, le-ltb}
+use Rattle.kinds.specs.Columns.{Arity, Columns, nought, minus}
 use Rattle.kinds.specs.Kinds.{Kind, Of, Lawful}
 use Rattle.transform.specs.Windows.{Trace, higher}
-use Rattle.transform.specs.Pulses.{Pulse, covers, chosen, standing}
+use Rattle.transform.specs.Pulses.{Pulse}
 use Rattle.transform.specs.Theory.{turned, Bump}
-use Rattle.transform.proofs.Order.{Below, AtMost, turned-lawful, at-most-trans, at-most-same, below-then, then-below, not-itself, not-below, higher-left, higher-right, higher-both}
-use Rattle.transform.proofs.Windows.{Rise, Fall}
-use Rattle.transform.proofs.Group.{plus-assoc, plus-minus, minus-nought, minus-minus, minus-self, plus-cancel, above-zero, below-zero, plus-at-most, Agree, agree-turned}
+use Rattle.transform.proofs.Order.{Below, AtMost, turned-lawful, at-most-same, not-itself, not-below, higher-left, higher-right, higher-both}
+use Rattle.transform.proofs.Group.{minus-nought, minus-minus, minus-self, above-zero, below-zero, Agree, agree-turned}
 
 -- the amount v on each of the w days from day f, and zero on every other
 unfoldable pub block : (a : Arity) → ℕ → ℕ → Columns a → ℕ → Columns a

@@ -7,6 +7,8 @@ pub mod Levels
 pub mod Sums
 pub mod Listing
 pub mod Stages
+pub mod Endings
+pub mod Ranges
 pub mod Counts
 pub mod Swings
 pub mod Choosing

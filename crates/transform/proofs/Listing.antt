@@ -1,17 +1,16 @@
 -- The listing of what L changes: its pulses are the bumps of width n, one after another.
-use mathlib.Core.Path.{_≡_, refl, sym, ap, _∙_, fun-ext, subst}
+use mathlib.Core.Path.{_≡_, refl, sym, ap, _∙_, fun-ext}
 use mathlib.Core.Logic.{inl, inr, _⊎_}
-use mathlib.Core.Bool.{Bool, true, false, cond, not, _&&_, _||_}
+use mathlib.Core.Bool.{Bool, true, false}
 use mathlib.Core.List.{List, [], _∷_, _++_}
 use Prim.Native.Nat.{ℕ, zero, suc, _+_, _-_, _≤_, _<_}
 use native.Mathlib.Omega.{arith}
-use lib.Dec.{leb, ltb}
 use lib.ListN.{length}
 use Rattle.std.specs.shelf.Lists.{All}
 use Rattle.std.proofs.shelf.Lists.{append-nil}
 use Rattle.std.proofs.shelf.Elements.{all-append}
-use Rattle.std.proofs.shelf.Tests.{cases-lt, cases-bool, both-ways, cond-true, cond-false, and-from, and-left, and-parts, not-true, not-from-false, or-from, or-parts, le-leb, lt-leb, leb-true, ltb-true}
-use Rattle.kinds.specs.Columns.{nought, plus, minus}
+use Rattle.std.proofs.shelf.Tests.{cases-lt, cases-bool, both-ways, cond-true, cond-false, and-from, and-parts, not-true, not-from-false, or-from, or-parts, le-leb, lt-ltb, leb-true, ltb-true}
+use Rattle.kinds.specs.Columns.{nought, minus}
 use Rattle.kinds.specs.Kinds.{Kind, Of, Lawful}
 use Rattle.transform.specs.Windows.{Record, Trace, trace, L, higher}
 use Rattle.transform.specs.Pulses.{Pulse, in-turn, changed, begins, unbroken, change, changes, covers}
@@ -58,6 +57,10 @@ covers-first p d e = leb-true _ _ (and-parts _ _ e .0)
 pub covers-last : {K : Kind} (p : Pulse K) (d : ℕ) → covers p d ≡ true → d < p .first + p .width
 unfolding covers
 covers-last p d e = ltb-true _ _ (and-parts _ _ e .1)
+
+pub covers-on : {K : Kind} (p : Pulse K) (d : ℕ) → p .first ≤ d → d < p .first + p .width → covers p d ≡ true
+unfolding covers
+covers-on p d h l = and-from _ _ (le-leb _ _ h) (lt-ltb _ _ l)
 
 pub all-in-turn : {A : Type 0} (Q : A → Type 0) (n : ℕ) (f : ℕ → List A) → ((c : ℕ) → All Q (f (suc c))) → All Q (in-turn n f)
 unfolding in-turn

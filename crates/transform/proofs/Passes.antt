@@ -1,6 +1,6 @@
 -- One pass over a trace, from the first day on, that levels each bump of width n as it comes to it:
 -- up to day c the days hold what L makes of them, after it what they held before.
-use mathlib.Core.Path.{_≡_, refl, sym, ap, _∙_, fun-ext}
+use mathlib.Core.Path.{_≡_, sym, ap, _∙_, fun-ext}
 use mathlib.Core.Logic.{inl, inr}
 use mathlib.Core.Bool.{cond}
 use Prim.Native.Nat.{ℕ, zero, suc, _+_, _≤_, _<_}
@@ -10,7 +10,7 @@ use Rattle.std.proofs.shelf.Tests.{cases-lt, cond-true, cond-false, le-leb, lt-
 use Rattle.kinds.specs.Kinds.{Kind, Lawful}
 use Rattle.transform.specs.Windows.{Trace, L, higher}
 use Rattle.transform.specs.Theory.{Bump}
-use Rattle.transform.proofs.Order.{at-most-same, below-then, not-itself, not-below, higher-right}
+use Rattle.transform.proofs.Order.{at-most-same, not-itself, not-below, higher-right}
 use Rattle.transform.proofs.Windows.{Fall, Apart, L-kept, L-levels, kept-or-bump, kept-before-rise}
 use Rattle.transform.proofs.Smooths.{Outside, L-outside}
 

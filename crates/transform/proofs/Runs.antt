@@ -1,12 +1,11 @@
 -- Levelling by runs is what the windows do.
-use mathlib.Core.Path.{_≡_, refl, sym, ap, _∙_, fun-ext, subst}
-use mathlib.Core.Logic.{inl, inr, _⊎_, _↔_}
-use mathlib.Core.Bool.{Bool, true, false}
+use mathlib.Core.Path.{_≡_, sym, ap, _∙_, fun-ext, subst}
+use mathlib.Core.Logic.{inl, inr, _↔_}
 use Prim.Native.Nat.{ℕ, zero, suc, _+_, _-_, _≤_, _<_}
 use native.Mathlib.Omega.{arith}
 use Rattle.std.proofs.shelf.Tests.{cases-lt, cases-bool}
-use Rattle.kinds.specs.Kinds.{Kind, Of, Lawful}
-use Rattle.transform.specs.Windows.{Record, Trace, trace, higher, L, U, lowered, raised, smooth}
+use Rattle.kinds.specs.Kinds.{Kind, Lawful}
+use Rattle.transform.specs.Windows.{Record, Trace, trace, L, U, smooth}
 use Rattle.transform.specs.Theory.{turned, Bump, Levelled}
 use Rattle.transform.proofs.Order.{Below, turned-lawful, not-itself, higher-both}
 use Rattle.transform.proofs.Windows.{Rise, Fall, Apart, L-levels, L-apart-turned, kept-or-bump}

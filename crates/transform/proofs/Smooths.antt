@@ -1,7 +1,6 @@
 -- Records and their traces: L, U and the smooths of a record, day by day.
 use mathlib.Core.Path.{_≡_, refl, sym, ap, _∙_, fun-ext, subst}
-use mathlib.Core.Logic.{inl, inr, _⊎_}
-use mathlib.Core.Bool.{Bool, true, false, cond}
+use mathlib.Core.Logic.{inl, inr}
 use mathlib.Core.List.{_∷_, map}
 use Prim.Native.Nat.{ℕ, zero, suc, _+_, _-_, _≤_, _<_}
 use native.Mathlib.Omega.{arith}
@@ -11,7 +10,7 @@ use Rattle.std.proofs.shelf.Lists.{getD-past}
 use Rattle.std.proofs.shelf.Counted.{length-map-counting, getD-map-counting}
 use Rattle.std.proofs.shelf.Tests.{cases-lt, cases-bool}
 use Rattle.kinds.specs.Columns.{nought}
-use Rattle.kinds.specs.Kinds.{Kind, Of, Lawful}
+use Rattle.kinds.specs.Kinds.{Kind, Lawful}
 use Rattle.transform.specs.Windows.{Record, Trace, trace, days, L, U, lowered, raised, smooth}
 use Rattle.transform.specs.Theory.{turned}
 use Rattle.transform.proofs.Order.{Below, AtMost, turned-lawful, at-most-same, then-below, below-then, not-itself}

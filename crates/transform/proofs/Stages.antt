@@ -1,23 +1,22 @@
 -- The pulses of a record, width by width.
 use mathlib.Core.Path.{_≡_, refl, sym, ap, _∙_, subst}
-use mathlib.Core.Logic.{inl, inr, _⊎_}
-use mathlib.Core.Bool.{Bool, true, false, cond}
+use mathlib.Core.Logic.{inl, inr}
+use mathlib.Core.Bool.{Bool, true, false}
 use mathlib.Core.List.{List, [], _∷_, _++_}
-use Prim.Native.Nat.{ℕ, zero, suc, _+_, _-_, _≤_, _<_}
+use Prim.Native.Nat.{ℕ, zero, suc, _+_, _-_, _≤_}
 use native.Mathlib.Omega.{arith}
 use lib.Dec.{ltb}
 use lib.ListN.{length}
 use Rattle.std.specs.shelf.Lists.{All}
-use Rattle.std.proofs.shelf.Lists.{append-nil}
 use Rattle.std.proofs.shelf.Elements.{all-append, all-weaker}
 use Rattle.std.proofs.shelf.Tests.{cases-lt, cases-bool, cond-true, cond-false, lt-ltb, le-ltb}
 use Rattle.kinds.specs.Columns.{nought, plus}
-use Rattle.kinds.specs.Kinds.{Kind, Of, Lawful}
-use Rattle.transform.specs.Windows.{Record, Trace, trace, lowered, raised, smooth}
+use Rattle.kinds.specs.Kinds.{Kind, Lawful}
+use Rattle.transform.specs.Windows.{Record, trace, lowered, smooth}
 use Rattle.transform.specs.Pulses.{Pulse, in-turn, upward, downward, pulses, chosen, standing}
 use Rattle.transform.specs.Theory.{turned, Regular}
 use Rattle.transform.proofs.Order.{Below, turned-lawful}
-use Rattle.transform.proofs.Windows.{Apart, L-apart-turned}
+use Rattle.transform.proofs.Windows.{L-apart-turned}
 use Rattle.transform.proofs.Smooths.{trace-lowered, trace-raised, length-smooth, length-lowered, smooth-apart, smooth-flat}
 use Rattle.transform.proofs.Group.{plus-assoc, plus-nought, nought-plus}
 use Rattle.transform.proofs.Levels.{Levels}

@@ -1,18 +1,17 @@
 -- What the pulses of a levelling sum to, all of them or some: different choices have different sums.
 use mathlib.Core.Path.{_≡_, refl, sym, ap, _∙_, subst}
-use mathlib.Core.Logic.{inl, inr, _⊎_}
-use mathlib.Core.Bool.{Bool, true, false, cond}
+use mathlib.Core.Logic.{inl, inr}
+use mathlib.Core.Bool.{Bool, true, false, cond, not}
 use mathlib.Core.List.{List, [], _∷_, _++_}
-use Prim.Native.Nat.{ℕ, zero, suc, _+_, _-_, _≤_, _<_}
+use Prim.Native.Nat.{ℕ, zero, suc, _+_, _<_}
 use native.Mathlib.Omega.{arith}
 use lib.ListN.{length}
 use Rattle.std.proofs.shelf.Tests.{cases-bool, cond-true, cond-false}
-use Rattle.kinds.specs.Columns.{nought, plus, minus}
-use Rattle.kinds.specs.Kinds.{Kind, Of, Lawful}
+use Rattle.kinds.specs.Columns.{nought, plus}
+use Rattle.kinds.specs.Kinds.{Kind, Lawful}
 use Rattle.transform.specs.Windows.{Trace}
 use Rattle.transform.specs.Pulses.{Pulse, covers, chosen, standing}
-use Rattle.transform.specs.Theory.{turned}
-use Rattle.transform.proofs.Order.{AtMost, at-most-same}
+use Rattle.transform.proofs.Order.{at-most-same}
 use Rattle.transform.proofs.Group.{plus-assoc, plus-comm, plus-minus, plus-cancel, nought-plus, plus-at-most}
 use Rattle.transform.proofs.Levels.{block, cut, Levels, Follows, Step, either-step}
 
@@ -57,6 +56,11 @@ pub chosen-numbered : {A : Type 0} (test : A → Bool) (xs : List A) → chosen 
 unfolding chosen numbered flags
 chosen-numbered test [] = refl
 chosen-numbered test (a ∷ rest) = ap (λ l. cond (test a) (a ∷ l) l) (chosen-numbered test rest)
+
+pub chosen-not-numbered : {A : Type 0} (test : A → Bool) (xs : List A) → chosen (λ a. not (test a)) xs ≡ numbered (λ k. not (flags test xs k)) xs
+unfolding chosen numbered flags
+chosen-not-numbered test [] = refl
+chosen-not-numbered test (a ∷ rest) = ap (λ l. cond (not (test a)) (a ∷ l) l) (chosen-not-numbered test rest)
 
 module _ (K : Kind) (m : ℕ → Bool) (p : Pulse K) (ps : List (Pulse K)) (d : ℕ) where
   pub standing-with : m 0 ≡ true → standing K (numbered m (p ∷ ps)) d ≡ plus (K .arity) (shape K p d) (standing K (numbered (λ k. m (suc k)) ps) d)

@@ -1,20 +1,19 @@
 -- The swing of a sum of pulses of a levelling is twice the sum of their sizes.
 use mathlib.Core.Path.{_≡_, refl, sym, ap, _∙_, fun-ext}
-use mathlib.Core.Logic.{inl, inr, _⊎_}
-use mathlib.Core.Bool.{Bool, true, false, cond, not}
+use mathlib.Core.Logic.{inl, inr}
+use mathlib.Core.Bool.{Bool, true, not}
 use mathlib.Core.List.{List, [], _∷_}
 use Prim.Native.Nat.{ℕ, zero, suc, _+_, _-_, _≤_, _<_}
 use native.Mathlib.Omega.{arith}
 use lib.ListN.{length}
-use Rattle.std.proofs.shelf.Tests.{cases-lt, cases-eq, cases-bool, cond-true, cond-false}
+use Rattle.std.proofs.shelf.Tests.{cases-lt, cases-bool}
 use Rattle.kinds.specs.Columns.{Arity, Columns, nought, plus, minus}
 use Rattle.kinds.specs.Kinds.{Kind, Of, Lawful}
 use Rattle.transform.specs.Windows.{Record, Trace, trace}
 use Rattle.transform.specs.Pulses.{Pulse, pulses, chosen, standing, size, sizes, summed, swing}
-use Rattle.transform.proofs.Order.{AtMost}
 use Rattle.transform.proofs.Group.{plus-assoc, plus-comm, plus-left-comm, plus-nought, nought-plus, minus-self, minus-nought, minus-minus, minus-sums, below-zero, above-zero, size-up, size-down, Agree, size-sum}
-use Rattle.transform.proofs.Levels.{block, block-on, block-before, block-after, Levels, Step, either-step}
-use Rattle.transform.proofs.Sums.{shape, numbered, flags, chosen-numbered, standing-more, levels-follows, follows-still}
+use Rattle.transform.proofs.Levels.{block, block-on, block-before, block-after, Levels, either-step}
+use Rattle.transform.proofs.Sums.{numbered, flags, chosen-numbered, chosen-not-numbered, standing-more, levels-follows, follows-still}
 use Rattle.transform.proofs.Counts.{inside, still-outside}
 use Rattle.transform.proofs.Stages.{pulses-level, pulses-sum}
 
@@ -133,22 +132,26 @@ module _ (K : Kind) (O : Lawful K) where
       ]
 
   -- the sizes of those chosen and of the others are all the sizes
-  pub sizes-parted : (keep : Pulse K → Bool) (ps : List (Pulse K)) → sizes K ps ≡ plus (K .arity) (sizes K (chosen keep ps)) (sizes K (chosen (λ p. not (keep p)) ps))
-  unfolding chosen
-  sizes-parted keep [] = rw (sizes-none, plus-nought)
-  sizes-parted keep (p ∷ ps) = rw (sizes-more p ps, sizes-parted keep ps) (elim (cases-bool (keep p)) [
-    | inl e ↦ rw (e, sizes-more p (chosen keep ps), plus-assoc)
-    | inr e ↦ rw (e, sizes-more p (chosen (λ p. not (keep p)) ps)) (plus-left-comm _ _ _ _)
+  sizes-parted : (ps : List (Pulse K)) (m : ℕ → Bool) → sizes K ps ≡ plus (K .arity) (sizes K (numbered m ps)) (sizes K (numbered (λ k. not (m k)) ps))
+  unfolding numbered
+  sizes-parted [] m = rw (sizes-none, plus-nought)
+  sizes-parted (p ∷ ps) m = rw (sizes-more p ps, sizes-parted ps (λ k. m (suc k))) (elim (cases-bool (m 0)) [
+    | inl e ↦ rw (e, sizes-more p (numbered (λ k. m (suc k)) ps), plus-assoc)
+    | inr e ↦ rw (e, sizes-more p (numbered (λ k. not (m (suc k))) ps)) (plus-left-comm _ _ _ _)
   ])
 
   -- whatever pulses are taken out, the swing of what stands and twice their sizes make the swing of the record
-  pub pulses-swing : (xs : Record K) (keep : Pulse K → Bool) →
-      swing K (length xs) (trace K xs) ≡
-      plus (K .arity) (swing K (length xs) (standing K (chosen keep (pulses K xs))))
-      (plus (K .arity) (sizes K (chosen (λ p. not (keep p)) (pulses K xs))) (sizes K (chosen (λ p. not (keep p)) (pulses K xs))))
-  pulses-swing xs keep =
+  pub pulses-swing-numbered : (xs : Record K) (m : ℕ → Bool) →
+      let out : Of K = sizes K (numbered (λ k. not (m k)) (pulses K xs)) in
+      swing K (length xs) (trace K xs) ≡ plus (K .arity) (swing K (length xs) (standing K (numbered m (pulses K xs)))) (plus (K .arity) out out)
+  pulses-swing-numbered xs m =
       ap (swing K (length xs)) (fun-ext (λ d. sym (pulses-sum K O xs d) ∙ ap (λ l. standing K l d) (all-numbered (pulses K xs)))) ∙
-      twice (λ k. true) ∙ rw (← (all-numbered (pulses K xs)), sizes-parted keep (pulses K xs), chosen-numbered keep (pulses K xs), twice (flags keep (pulses K xs))) (sym (doubled (K .arity) _ _))
+      twice (λ k. true) ∙ rw (← (all-numbered (pulses K xs)), sizes-parted (pulses K xs) m, twice m) (sym (doubled (K .arity) _ _))
     where
       twice : (m : ℕ → Bool) → swing K (length xs) (standing K (numbered m (pulses K xs))) ≡ plus (K .arity) (sizes K (numbered m (pulses K xs))) (sizes K (numbered m (pulses K xs)))
       twice m = levels-swing (length xs) (pulses K xs) m _ _ (still-outside K O xs) (pulses-level K O xs)
+
+  pub pulses-swing : (xs : Record K) (keep : Pulse K → Bool) →
+      let out : Of K = sizes K (chosen (λ p. not (keep p)) (pulses K xs)) in
+      swing K (length xs) (trace K xs) ≡ plus (K .arity) (swing K (length xs) (standing K (chosen keep (pulses K xs)))) (plus (K .arity) out out)
+  pulses-swing xs keep = rw (chosen-numbered keep (pulses K xs), chosen-not-numbered keep (pulses K xs)) (pulses-swing-numbered xs (flags keep (pulses K xs)))

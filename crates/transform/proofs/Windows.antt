@@ -2,14 +2,13 @@
 -- the higher of their neighbours, and keeps every other day.
 use mathlib.Core.Path.{_≡_, refl, sym, ap, _∙_}
 use mathlib.Core.Logic.{inl, inr, _⊎_}
-use mathlib.Core.Bool.{Bool, true, false, cond}
 use Prim.Native.Nat.{ℕ, zero, suc, _+_, _-_, _≤_, _<_}
 use native.Mathlib.Omega.{arith}
-use Rattle.std.proofs.shelf.Tests.{cases-lt, cases-order, cases-bool, both-ways}
+use Rattle.std.proofs.shelf.Tests.{cases-lt, cases-bool}
 use Rattle.kinds.specs.Kinds.{Kind, Of, Lawful}
-use Rattle.transform.specs.Windows.{Trace, lower, higher, lowest, highest, L, U}
+use Rattle.transform.specs.Windows.{Trace, higher, lowest, highest, L, U}
 use Rattle.transform.specs.Theory.{turned, Bump}
-use Rattle.transform.proofs.Order.{Below, AtMost, turned-lawful, turned-lowest, at-most-trans, below-then, then-below, not-itself, at-most-same, not-below, higher-left, higher-right, higher-both, highest-over, highest-all, lowest-under, lowest-all}
+use Rattle.transform.proofs.Order.{Below, AtMost, turned-lowest, at-most-trans, below-then, not-itself, at-most-same, not-below, higher-left, higher-right, higher-both, highest-over, highest-all, lowest-under, lowest-all}
 
 -- the trace rises, or falls, from day b to the day after; it falls where the turned order has it rise
 abbrev pub Rise : (K : Kind) → Trace K → ℕ → Type 0

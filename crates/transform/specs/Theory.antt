@@ -1,13 +1,13 @@
 -- What is true of the pulses of every record of every lawful kind.
 use mathlib.Core.Path.{_≡_}
 use mathlib.Core.Logic.{_↔_}
-use mathlib.Core.Bool.{Bool, true, false, not}
+use mathlib.Core.Bool.{Bool, true, not}
 use mathlib.Core.List.{List, [], _∷_}
 use Prim.Native.Nat.{ℕ, suc, _+_, _≤_, _<_}
 use lib.Dec.{ltb}
 use lib.ListN.{length}
 use Rattle.std.specs.shelf.Lists.{All, Has}
-use Rattle.kinds.specs.Columns.{nought, plus, minus}
+use Rattle.kinds.specs.Columns.{nought, plus, minus, within}
 use Rattle.kinds.specs.Kinds.{Kind, Of, Lawful}
 use Rattle.transform.specs.Windows.{Record, Trace, trace, higher, L, U, lowered, smooth}
 use Rattle.transform.specs.Pulses.{Pulse, upward, downward, pulses, covers, chosen, standing, sizes, swing}
@@ -17,12 +17,16 @@ abbrev pub turned : Kind → Kind
 turned K = record { arity = K .arity; below = λ x y. K .below y x; bound = K .bound; has = K .has; names = K .names }
 
 -- The w days after day p are a bump of the trace: they hold one total, and the day before and the
--- day after hold lower ones. A pit is a bump of the turned kind.
+-- day after hold lower ones.
 pub record Bump (K : Kind) (x : Trace K) (p w : ℕ) : Type 0 where
   pub some : 0 < w
   pub level : (d : ℕ) → p < d → d ≤ p + w → x d ≡ x (suc p)
   pub rises : K .below (x p) (x (suc p)) ≡ true
   pub falls : K .below (x (suc (p + w))) (x (suc p)) ≡ true
+
+-- a pit is a bump of the turned kind: the day before and the day after hold higher totals
+abbrev pub Pit : (K : Kind) → Trace K → ℕ → ℕ → Type 0
+Pit K x p w = Bump (turned K) x p w
 
 -- The pulse covers n days, all within the record, and on each of them what the day held before
 -- less what it holds after is its amount.
@@ -81,7 +85,17 @@ Swings-balance =
     let out : Of K = sizes K (chosen (λ p. not (keep p)) (pulses K xs)) in
     swing K (length xs) (trace K xs) ≡ plus (K .arity) (swing K (length xs) (standing K (chosen keep (pulses K xs)))) (plus (K .arity) out out)
 
+-- in a record of up to 1,000 days each within the entry bounds, every amount, every sum of some of
+-- the pulses and the swing of such a sum is a value of the kind
+abbrev pub Sums-stay-in-range : Type 0
+Sums-stay-in-range =
+    (K : Kind) → Lawful K → (xs : Record K) → length xs ≤ 1000 → All (λ x. within (K .arity) (K .bound) x ≡ true) xs →
+    All (λ p. K .has (p .amount) ≡ true) (pulses K xs) ×
+    ((keep : Pulse K → Bool) →
+    ((d : ℕ) → K .has (standing K (chosen keep (pulses K xs)) d) ≡ true) × (K .has (swing K (length xs) (standing K (chosen keep (pulses K xs)))) ≡ true))
+
 -- Levelling by runs: y is x with each bump of width n taken down to the higher of its neighbours.
+-- Over the turned kind it is x with each pit of width n taken up to the lower of its neighbours.
 pub record Levelled (K : Kind) (n : ℕ) (x y : Trace K) : Type 0 where
   pub inside : (p d : ℕ) → Bump K x p n → p < d → d ≤ p + n → y d ≡ higher K (x p) (x (suc (p + n)))
   pub outside : (d : ℕ) → ((p : ℕ) → Bump K x p n → p < d → d ≤ p + n → ⊥) → y d ≡ x d
@@ -90,13 +104,13 @@ pub record Levelled (K : Kind) (n : ℕ) (x y : Trace K) : Type 0 where
 abbrev pub Windows-level-runs : Type 0
 Windows-level-runs =
     (K : Kind) → Lawful K → (n : ℕ) (x : Trace K) →
-    (((p w : ℕ) → w < n → Bump K x p w → ⊥) → Levelled K n x (L K n x)) × (((p w : ℕ) → w < n → Bump (turned K) x p w → ⊥) → Levelled (turned K) n x (U K n x))
+    (((p w : ℕ) → w < n → Bump K x p w → ⊥) → Levelled K n x (L K n x)) × (((p w : ℕ) → w < n → Pit K x p w → ⊥) → Levelled (turned K) n x (U K n x))
 
 -- the smooth of width n has no bump and no pit of width n or less
 abbrev pub Smooths-are-smooth : Type 0
 Smooths-are-smooth =
     (K : Kind) → Lawful K → (xs : Record K) (n p w : ℕ) → w ≤ n →
-    (Bump K (trace K (smooth K n xs)) p w → ⊥) × (Bump (turned K) (trace K (smooth K n xs)) p w → ⊥)
+    (Bump K (trace K (smooth K n xs)) p w → ⊥) × (Pit K (trace K (smooth K n xs)) p w → ⊥)
 
 -- levelling each bump of width n + 1 of the smooth of width n, and then each pit of that width of
 -- the result, gives the smooth of width n + 1, and nothing else

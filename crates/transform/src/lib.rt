@@ -10,6 +10,7 @@ pub use theory::pulses_have_days_of_their_own;
 pub use theory::pulses_sum_to_the_record;
 pub use theory::runs_make_the_smooths;
 pub use theory::smooths_are_smooth;
+pub use theory::sums_stay_in_range;
 pub use theory::swings_balance;
 pub use theory::wider_pulses_sum_to_the_smooth;
 pub use theory::widths_and_amounts;

@@ -2,7 +2,7 @@
 // of a function that does nothing else.
 ghost use Rattle.transform.specs.Theory.{Widths-and-amounts, Pulses-sum-to-the-record, Wider-pulses-sum-to-the-smooth};
 ghost use Rattle.transform.specs.Theory.{At-most-as-many-pulses-as-days, Different-choices-differ, Pulses-have-days-of-their-own, Swings-balance};
-ghost use Rattle.transform.specs.Theory.{Windows-level-runs, Smooths-are-smooth, Runs-make-the-smooths};
+ghost use Rattle.transform.specs.Theory.{Sums-stay-in-range, Windows-level-runs, Smooths-are-smooth, Runs-make-the-smooths};
 
 pub fn widths_and_amounts() -> u8
     ensures { λ _. ⌜ Widths-and-amounts ⌝ }
@@ -42,6 +42,12 @@ pub fn pulses_have_days_of_their_own() -> u8
 
 pub fn swings_balance() -> u8
     ensures { λ _. ⌜ Swings-balance ⌝ }
+{
+    0
+}
+
+pub fn sums_stay_in_range() -> u8
+    ensures { λ _. ⌜ Sums-stay-in-range ⌝ }
 {
     0
 }
