@@ -1,0 +1,11 @@
+pub mod Bytes
+pub mod Figures
+pub mod Reader
+pub mod Parts
+pub mod Faults
+pub mod Headings
+pub mod Traces
+pub mod Written
+pub mod Values
+pub mod Turns
+pub mod Texts
