@@ -1,10 +1,21 @@
-// The run method: bumps of one width are lowered to their higher neighbour, then pits of that width
-// raised to their lower one, width by width.
+// One pass of the run method: the bumps of one width are lowered to their higher neighbour, or the
+// pits of that width raised to their lower one.
+ghost use mathlib.Core.Bool.{true};
+ghost use mathlib.Core.Path.{_≡_};
+ghost use Prim.Native.Nat.{ℕ, suc, _+_, _-_, _<_, _≤_};
+ghost use lib.ListN.{length};
+ghost use Rattle.kinds.specs.Columns.{within};
+ghost use Rattle.kinds.specs.Kinds.{Compared};
+ghost use Rattle.shelves.specs.Slots.{shown};
+ghost use Rattle.transform.specs.Windows.{Record, higher, trace};
+ghost use Rattle.transform.specs.Pulses.{change};
+ghost use Rattle.sheets.specs.Takes.{row-of};
+ghost use Rattle.sheets.specs.Work.{view};
+ghost use Rattle.sheets.specs.Passes.{aimed, Fate-of, nearest, Joins, Relaid, bump-pulse, Marked, Midway, Visiting, Added, Ready, Swept};
 use crate::work::Run;
 use crate::work::WorkEntry;
 use crate::work::mark_at;
-use crate::work::run_from;
-use crate::work::run_to;
+use crate::work::other_at;
 use crate::work::same;
 use crate::work::set_mark;
 use crate::work::set_run;
@@ -14,10 +25,6 @@ use shelves::Row;
 use shelves::Shelf;
 use std::cmp::Ordering;
 
-// A sum or a difference had no value, or a row no slot: no record that was accepted leads there.
-#[derive(Clone, Copy)]
-pub(crate) struct Lacking;
-
 // What a pass levels: bumps, or pits, which are bumps of the turned order.
 #[derive(Clone, Copy)]
 pub(crate) struct Pass {
@@ -25,133 +32,18 @@ pub(crate) struct Pass {
     pub down: bool,
 }
 
-// What a run is to its two neighbours.
+// What a pass does with a marked run.
 #[derive(Clone, Copy)]
-enum Turn {
-    // a bump, or in a downward pass a pit
+enum Fate {
+    // a bump of the pass's width is levelled
     Levelled,
-    // the other of the two
-    Opposite,
-    Neither,
+    // another bump or pit keeps its mark
+    Kept,
+    // the mark of a run that is neither is dropped
+    Dropped,
 }
 
-// Lays the record out in runs and marks each of them. Answers the number of marks.
-pub(crate) fn build<K: Total>(record: &[K], work: &mut [WorkEntry<K>]) -> usize {
-    let mut marks = 0usize;
-    let mut first = 0usize;
-    let mut before = K::zero();
-    let mut day = 0usize;
-    for total in record {
-        if !same(before, *total) {
-            set_run(work, Run { first, last: day }, before);
-            marks = with_mark(work, marks, first);
-            first = day.saturating_add(1);
-            before = *total;
-        }
-        day = day.saturating_add(1);
-    }
-    if !same(before, K::zero()) {
-        set_run(work, Run { first, last: day }, before);
-        marks = with_mark(work, marks, first);
-        first = day.saturating_add(1);
-    }
-    set_run(
-        work,
-        Run {
-            first,
-            last: day.saturating_add(1),
-        },
-        K::zero(),
-    );
-    marks
-}
-
-// One mark more. The run that reaches back before day 1 never turns, so it gets none.
-fn with_mark<K: Total>(work: &mut [WorkEntry<K>], marks: usize, first: usize) -> usize {
-    if first == 0 {
-        return marks;
-    }
-    set_mark(work, marks, first);
-    marks.saturating_add(1)
-}
-
-// The order of two totals, turned in a downward pass.
-fn compared<K: Total>(a: K, b: K, down: bool) -> Ordering {
-    if down { b.compare(a) } else { a.compare(b) }
-}
-
-// The one of two totals that is nearer to a bump above both, or in a downward pass to a pit.
-fn nearer<K: Total>(a: K, b: K, down: bool) -> K {
-    match compared(a, b, down) {
-        Ordering::Less => b,
-        Ordering::Equal => a,
-        Ordering::Greater => a,
-    }
-}
-
-// What the run is to its neighbours. A run that reaches the days after the last never turns.
-fn turn_of<K: Total>(work: &[WorkEntry<K>], run: Run, days: usize, down: bool) -> Turn {
-    if run.first == 0 || run.last > days {
-        return Turn::Neither;
-    }
-    let here = total_at(work, run.first);
-    let left = compared(total_at(work, run.first - 1), here, down);
-    let right = compared(total_at(work, run.last.saturating_add(1)), here, down);
-    match (left, right) {
-        (Ordering::Less, Ordering::Less) => Turn::Levelled,
-        (Ordering::Greater, Ordering::Greater) => Turn::Opposite,
-        _ => Turn::Neither,
-    }
-}
-
-// Levels a run to its nearer neighbour, with which it then is one run. Answers the new run.
-fn level<K: Total>(work: &mut [WorkEntry<K>], run: Run, down: bool) -> Run {
-    if run.first == 0 {
-        return run;
-    }
-    let left = total_at(work, run.first - 1);
-    let right = total_at(work, run.last.saturating_add(1));
-    let total = nearer(left, right, down);
-    let mut new = run;
-    if same(left, total) {
-        new.first = run_to(work, run.first - 1).first;
-    }
-    if same(right, total) {
-        new.last = run_from(work, run.last.saturating_add(1)).last;
-    }
-    set_run(work, new, total);
-    new
-}
-
-// The row of a run's pulse: what its days hold above the nearer neighbour.
-fn pulse<K: Total>(work: &[WorkEntry<K>], run: Run, pass: Pass) -> Result<Row<K>, Lacking> {
-    if run.first == 0 {
-        return Err(Lacking);
-    }
-    let left = total_at(work, run.first - 1);
-    let right = total_at(work, run.last.saturating_add(1));
-    let Some(amount) = total_at(work, run.first).difference(nearer(left, right, pass.down)) else {
-        return Err(Lacking);
-    };
-    let Ok(first) = u16::try_from(run.first) else {
-        return Err(Lacking);
-    };
-    let Ok(width) = u16::try_from(pass.width) else {
-        return Err(Lacking);
-    };
-    Ok(Row {
-        first,
-        width,
-        mark: 0,
-        amount,
-    })
-}
-
-fn width_of(run: Run) -> usize {
-    run.last.saturating_sub(run.first).saturating_add(1)
-}
-
-// Where a pass stands: how many marks it has kept, the last day that it has levelled, and how many
+// Where a pass stands: how many marks it has kept, the last day that it has dealt with, and how many
 // rows there are.
 #[derive(Clone, Copy)]
 pub(crate) struct Progress {
@@ -160,16 +52,139 @@ pub(crate) struct Progress {
     pub rows: usize,
 }
 
+// The order of two totals, turned in a downward pass.
+fn compared<K: Total>(a: K, b: K, down: bool) -> Ordering
+    ensures { λ r. ⌜ Compared (aimed kind down .below) (columns a) (columns b) r ⌝ }
+{
+    if down { b.compare(a) } else { a.compare(b) }
+}
+
+// The one of two totals that is nearer to a bump above both, or in a downward pass to a pit.
+fn nearer<K: Total>(a: K, b: K, down: bool) -> K
+    ensures { λ r. ⌜ columns r ≡ higher (aimed kind down) (columns a) (columns b) ⌝ }
+{
+    match compared(a, b, down) {
+        Ordering::Less => b,
+        Ordering::Equal => a,
+        Ordering::Greater => a,
+    }
+}
+
+// What the pass does with a run. One that reaches the day after the last is neither bump nor pit.
+fn fate_of<K: Total>(work: &[WorkEntry<K>], run: Run, days: usize, pass: Pass) -> Fate
+    requires { ⌜ 0 < run .first ⌝ }
+    requires { ⌜ run .first ≤ run .last ⌝ }
+    requires { ⌜ days + 2 ≤ length (now work) ⌝ }
+    requires { ⌜ run .last ≤ suc days ⌝ }
+    ensures { λ r. ⌜ Fate-of (aimed kind (pass .down)) days (pass .width) (run .first) (run .last) (view kind columns (now (work .entry)) .total (run .first - 1)) (view kind columns (now (work .entry)) .total (run .first)) (view kind columns (now (work .entry)) .total (run .last + 1)) r ⌝ }
+{
+    if run.last > days {
+        return Fate::Dropped;
+    }
+    let here = total_at(work, run.first);
+    let left = compared(total_at(work, run.first - 1), here, pass.down);
+    let right = compared(total_at(work, run.last + 1), here, pass.down);
+    match left {
+        Ordering::Less => match right {
+            Ordering::Less => {
+                if run.last - run.first + 1 == pass.width {
+                    Fate::Levelled
+                } else {
+                    Fate::Kept
+                }
+            }
+            Ordering::Equal => Fate::Dropped,
+            Ordering::Greater => Fate::Dropped,
+        },
+        Ordering::Equal => Fate::Dropped,
+        Ordering::Greater => match right {
+            Ordering::Less => Fate::Dropped,
+            Ordering::Equal => Fate::Dropped,
+            Ordering::Greater => Fate::Kept,
+        },
+    }
+}
+
+// The row of a run's pulse: what its days hold above the nearer neighbour.
+fn pulse<K: Total>(work: &[WorkEntry<K>], run: Run, pass: Pass) -> Row<K>
+    requires { ⌜ run .last + 1 < length (now work) ⌝ }
+    requires { ⌜ run .first ≤ run .last ⌝ }
+    requires { ⌜ run .first < 65536 ⌝ }
+    requires { ⌜ pass .width < 65536 ⌝ }
+    requires { ⌜ within (kind .arity) (kind .bound) (view kind columns (now work) .total (run .first)) ≡ true ⌝ }
+    requires { ⌜ within (kind .arity) (kind .bound) (view kind columns (now work) .total (run .first - 1)) ≡ true ⌝ }
+    requires { ⌜ within (kind .arity) (kind .bound) (view kind columns (now work) .total (run .last + 1)) ≡ true ⌝ }
+    requires { ⌜ 0 < run .first ⌝ }
+    ensures { λ r. ⌜ shown kind columns r ≡ row-of (bump-pulse kind (pass .down) (view kind columns (now (work .entry))) (pass .width) (run .first) (run .last)) ⌝ }
+{
+    let left = total_at(work, run.first - 1);
+    let right = total_at(work, run.last + 1);
+    let level = nearer(left, right, pass.down);
+    let amount = total_at(work, run.first).difference(level).unwrap();
+    Row {
+        first: run.first as u16,
+        width: pass.width as u16,
+        mark: 0,
+        amount,
+    }
+}
+
+// An end of a levelled run: it moves to the other end of the run beside it if that holds the same.
+fn joined<K: Total>(work: &[WorkEntry<K>], beside: K, level: K, neighbour: usize, end: usize) -> usize
+    requires { ⌜ neighbour < length (now work) ⌝ }
+    ensures { λ r. ⌜ Joins (view kind columns (now (work .entry))) (columns beside) (columns level) neighbour end r ⌝ }
+{
+    if same(beside, level) {
+        other_at(work, neighbour)
+    } else {
+        end
+    }
+}
+
+// Levels a run to its nearer neighbour, with which it then is one run. Answers the new run.
+fn level<K: Total>(work: &mut [WorkEntry<K>], run: Run, down: bool) -> Run
+    requires { ⌜ 0 < run .first ⌝ }
+    requires { ⌜ run .first ≤ run .last ⌝ }
+    requires { ⌜ run .last + 1 < length (now work) ⌝ }
+    requires { ⌜ view kind columns (now work) .other (run .first - 1) < length (now work) ⌝ }
+    requires { ⌜ view kind columns (now work) .other (run .last + 1) < length (now work) ⌝ }
+    ensures { λ r. ⌜ Relaid (aimed kind down) (view kind columns (now (work .entry))) (view kind columns (now (work .exit))) (run .first) (run .last) (r .first) (r .last) ⌝ }
+{
+    let left = total_at(work, run.first - 1);
+    let right = total_at(work, run.last + 1);
+    let total = nearer(left, right, down);
+    let first = joined(work, left, total, run.first - 1, run.first);
+    let last = joined(work, right, total, run.last + 1, run.last);
+    let new = Run { first, last };
+    set_run(work, new, total);
+    new
+}
+
+// Marks a run, unless it has the last mark or reaches back before day 1. Answers the number of marks.
+fn marked<K: Total>(work: &mut [WorkEntry<K>], kept: usize, first: usize) -> usize
+    requires { ⌜ kept < length (now work) ⌝ }
+    ensures { λ r. ⌜ Marked (view kind columns (now (work .entry))) (view kind columns (now (work .exit))) kept first r ⌝ }
+{
+    if first == 0 {
+        return kept;
+    }
+    if kept > 0 && mark_at(work, kept - 1) == first {
+        return kept;
+    }
+    set_mark(work, kept, first);
+    kept + 1
+}
+
 // Levels the runs of the pass's width and direction, from the left, and puts their rows. Marks of
-// runs that no longer turn are dropped.
-pub(crate) fn level_width<K: Total, S: Shelf<K>>(
-    work: &mut [WorkEntry<K>],
-    shelf: &mut S,
-    days: usize,
-    marks: usize,
-    rows: usize,
-    pass: Pass,
-) -> Result<Progress, Lacking> {
+// runs that are neither bump nor pit are dropped.
+pub(crate) fn level_width<K: Total, S: Shelf<K>>(work: &mut [WorkEntry<K>], shelf: &mut S, days: usize, marks: usize, rows: usize, pass: Pass) -> Progress
+    requires room { ⌜ days + 2 ≤ length (now work) ⌝ }
+    requires few { ⌜ days ≤ 1000 ⌝ }
+    requires rows { ⌜ rows ≤ days ⌝ }
+    requires stands { ⌜ ((b : Record kind) × (a : Record kind) × Ready kind (pass .down) (pass .width) days (view kind columns (now work)) marks b a) ⌝ }
+    ensures stands { λ r. ⌜ ((b a : Record kind) → Ready kind (pass .down) (pass .width) days (view kind columns (now (work .entry))) marks b a → Swept kind (pass .down) days (view kind columns (now (work .exit))) (r .kept) b a rows (r .rows) (slots (now (shelf .entry))) (slots (now (shelf .exit)))) ⌝ }
+    ensures outside { λ _. ⌜ outside (now (shelf .exit)) ≡ outside (now (shelf .entry)) ⌝ }
+{
     let mut at = Progress {
         kept: 0,
         reached: 0,
@@ -178,76 +193,49 @@ pub(crate) fn level_width<K: Total, S: Shelf<K>>(
     for number in 0..marks {
         let first = mark_at(work, number);
         if first > at.reached {
-            at = visit(work, shelf, run_from(work, first), days, at, pass)?;
+            at = visit(work, shelf, days, first, at, pass);
         }
     }
-    Ok(at)
+    at
 }
 
 // One marked run in a pass.
-fn visit<K: Total, S: Shelf<K>>(
-    work: &mut [WorkEntry<K>],
-    shelf: &mut S,
-    run: Run,
-    days: usize,
-    at: Progress,
-    pass: Pass,
-) -> Result<Progress, Lacking> {
-    let mut at = at;
-    match turn_of(work, run, days, pass.down) {
-        Turn::Neither => return Ok(at),
-        Turn::Levelled => {
-            if width_of(run) == pass.width {
-                let row = pulse(work, run, pass)?;
-                put(shelf, at.rows, row)?;
-                at.rows = at.rows.saturating_add(1);
-                let new = level(work, run, pass.down);
-                at.reached = new.last;
-                at.kept = marked(work, at.kept, new.first);
-                return Ok(at);
+fn visit<K: Total, S: Shelf<K>>(work: &mut [WorkEntry<K>], shelf: &mut S, days: usize, first: usize, at: Progress, pass: Pass) -> Progress
+    requires room { ⌜ days + 2 ≤ length (now work) ⌝ }
+    requires few { ⌜ days ≤ 1000 ⌝ }
+    requires rows { ⌜ at .rows < 65536 ⌝ }
+    requires stands { ⌜ ((b : Record kind) × (a : Record kind) × (i : ℕ) × (hi : ℕ) × Visiting kind (pass .down) (pass .width) days (view kind columns (now work)) (at .kept) (at .reached) first b a i hi) ⌝ }
+    ensures stands { λ r. ⌜ ((b a : Record kind) (i hi : ℕ) → Visiting kind (pass .down) (pass .width) days (view kind columns (now (work .entry))) (at .kept) (at .reached) first b a i hi → Midway (aimed kind (pass .down)) (pass .width) (suc days) (trace kind b) (view kind columns (now (work .exit))) (suc i) hi (r .kept) (r .reached) × Added kind (change kind b a) (at .reached) (r .reached) (at .rows) (r .rows) (slots (now (shelf .entry))) (slots (now (shelf .exit)))) ⌝ }
+    ensures rows { λ r. ⌜ r .rows ≤ at .rows + 1 ⌝ }
+    ensures outside { λ _. ⌜ outside (now (shelf .exit)) ≡ outside (now (shelf .entry)) ⌝ }
+{
+    let run = Run {
+        first,
+        last: other_at(work, first),
+    };
+    match fate_of(work, run, days, pass) {
+        Fate::Levelled => {
+            let row = pulse(work, run, pass);
+            let _ = shelf.put(at.rows, &row);
+            let new = level(work, run, pass.down);
+            Progress {
+                kept: marked(work, at.kept, new.first),
+                reached: new.last,
+                rows: at.rows + 1,
             }
         }
-        Turn::Opposite => {}
-    }
-    set_mark(work, at.kept, run.first);
-    at.kept = at.kept.saturating_add(1);
-    Ok(at)
-}
-
-// Marks the run that a levelling made: it takes the place of its left neighbour's mark.
-fn marked<K: Total>(work: &mut [WorkEntry<K>], kept: usize, first: usize) -> usize {
-    let mut kept = kept;
-    if kept > 0 && mark_at(work, kept - 1) >= first {
-        kept -= 1;
-    }
-    with_mark(work, kept, first)
-}
-
-fn put<K: Total, S: Shelf<K>>(shelf: &mut S, slot: usize, row: Row<K>) -> Result<(), Lacking> {
-    match shelf.put(slot, &row) {
-        Ok(_) => Ok(()),
-        Err(_) => Err(Lacking),
-    }
-}
-
-// Levels width by width until nothing turns, and answers the number of rows.
-pub(crate) fn split<K: Total, S: Shelf<K>>(
-    record: &[K],
-    work: &mut [WorkEntry<K>],
-    shelf: &mut S,
-) -> Result<usize, Lacking> {
-    let days = record.len();
-    let mut marks = build(record, work);
-    let mut rows = 0;
-    for width in 1..=days {
-        if marks == 0 {
-            break;
+        Fate::Kept => {
+            set_mark(work, at.kept, first);
+            Progress {
+                kept: at.kept + 1,
+                reached: run.last,
+                rows: at.rows,
+            }
         }
-        for down in [false, true] {
-            let at = level_width(work, shelf, days, marks, rows, Pass { width, down })?;
-            marks = at.kept;
-            rows = at.rows;
-        }
+        Fate::Dropped => Progress {
+            kept: at.kept,
+            reached: run.last,
+            rows: at.rows,
+        },
     }
-    Ok(rows)
 }

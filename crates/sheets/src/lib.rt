@@ -1,6 +1,8 @@
 // Sheets: a record split into its pulses, the rows kept on a shelf.
+mod layout;
 mod levelling;
 mod sheet;
+mod splitting;
 mod work;
 
 pub use sheet::Sheet;

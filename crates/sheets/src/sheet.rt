@@ -1,4 +1,8 @@
-use crate::levelling::split;
+ghost use mathlib.Core.List.{map};
+ghost use mathlib.Core.Path.{_≡_};
+ghost use lib.ListN.{length};
+ghost use Rattle.sheets.specs.Takes.{Barred-day, Refusal-of, Take, opened, state-of};
+use crate::splitting::split;
 use crate::work::WorkEntry;
 use kinds::Total;
 use refusals::Refusal;
@@ -25,7 +29,9 @@ pub struct Sheet<K, S> {
 
 impl<K: Total, S: Shelf<K>> Sheet<K, S> {
     // A sheet of the empty record, with no pulses. The slots are left alone.
-    pub fn new(shelf: S) -> Sheet<K, S> {
+    pub fn new(shelf: S) -> Sheet<K, S>
+        ensures { λ r. ⌜ state-of slots outside r ≡ opened (slots shelf) (outside shelf) ⌝ }
+    {
         Sheet {
             shelf,
             days: 0,
@@ -36,34 +42,48 @@ impl<K: Total, S: Shelf<K>> Sheet<K, S> {
 
     // Splits a record into its pulses and puts their rows, each marked in. What the sheet had is
     // replaced. Answers the number of pulses.
-    pub fn take(&mut self, record: &[K], work: &mut [WorkEntry<K>]) -> Result<usize, Stop> {
-        if let Some(refusal) = refused_take(record, work.len(), self.shelf.capacity()) {
+    pub fn take(&mut self, totals: &[K], work: &mut [WorkEntry<K>]) -> Result<usize, Stop>
+        ensures { λ r. ⌜ Take kind (map columns (now (totals .entry))) (length (now (work .entry))) (state-of slots outside (now (self .entry))) (state-of slots outside (now (self .exit))) (now (self .entry)) (now (self .exit)) (now (work .entry)) (now (work .exit)) r ⌝ }
+    {
+        if let Some(refusal) = refused_take(totals, work.len(), self.shelf.capacity()) {
             return Err(Stop::Refused(refusal));
         }
-        let Ok(pulses) = split(record, work, &mut self.shelf) else {
-            return Err(Stop::Unreachable);
-        };
-        self.days = record.len();
+        let pulses = split(totals, work, &mut self.shelf);
+        self.days = day_count(totals);
         self.pulses = pulses;
         Ok(pulses)
     }
 
-    pub fn days(&self) -> usize {
+    // The number of days of the record held.
+    pub fn days(&self) -> usize
+        ensures { λ r. ⌜ r ≡ state-of slots outside (now (self .entry)) .days ⌝ }
+    {
         self.days
     }
 
-    pub fn pulses(&self) -> usize {
+    // The number of its pulses.
+    pub fn pulses(&self) -> usize
+        ensures { λ r. ⌜ r ≡ state-of slots outside (now (self .entry)) .count ⌝ }
+    {
         self.pulses
     }
 }
 
 const MOST_DAYS: usize = 1000;
 
+fn day_count<K: Total>(totals: &[K]) -> usize
+    ensures { λ r. ⌜ r ≡ length (map columns (now (totals .entry))) ⌝ }
+{
+    totals.len()
+}
+
 // The first day, counted from 1, whose total may not be entered.
-fn first_barred<K: Total>(record: &[K]) -> Option<usize> {
+fn first_barred<K: Total>(totals: &[K]) -> Option<usize>
+    ensures { λ r. ⌜ Barred-day kind (map columns (now (totals .entry))) r ⌝ }
+{
     let mut day = 0usize;
-    for total in record {
-        day = day.saturating_add(1);
+    for total in totals {
+        day += 1;
         if !total.may_enter() {
             return Some(day);
         }
@@ -72,12 +92,14 @@ fn first_barred<K: Total>(record: &[K]) -> Option<usize> {
 }
 
 // The lowest number of the table whose condition a take meets.
-fn refused_take<K: Total>(record: &[K], entries: usize, capacity: usize) -> Option<Refusal> {
-    let days = record.len();
+fn refused_take<K: Total>(totals: &[K], entries: usize, capacity: usize) -> Option<Refusal>
+    ensures { λ r. ⌜ Refusal-of kind (map columns (now (totals .entry))) entries capacity r ⌝ }
+{
+    let days = day_count(totals);
     if days > MOST_DAYS {
         return Some(Refusal::TooManyDays);
     }
-    if let Some(day) = first_barred(record) {
+    if let Some(day) = first_barred(totals) {
         return Some(Refusal::MayNotEnter { day });
     }
     if entries < days + 2 {

@@ -1,4 +1,9 @@
 // The work list of a take: the totals of days 0 to days + 1, known at the ends of their runs.
+ghost use mathlib.Core.Path.{_≡_};
+ghost use Prim.Native.Nat.{_<_};
+ghost use lib.ListN.{length};
+ghost use Rattle.std.specs.Orderings.{When};
+ghost use Rattle.sheets.specs.Work.{view, with-end, with-mark, with-run};
 use kinds::Total;
 use std::cmp::Ordering;
 
@@ -32,67 +37,62 @@ pub(crate) struct Run {
     pub last: usize,
 }
 
-pub(crate) fn total_at<K: Total>(work: &[WorkEntry<K>], day: usize) -> K {
-    if day < work.len() {
-        work[day].total
-    } else {
-        K::zero()
-    }
+pub(crate) fn total_at<K: Total>(work: &[WorkEntry<K>], day: usize) -> K
+    requires { ⌜ day < length (now work) ⌝ }
+    ensures { λ r. ⌜ columns r ≡ view kind columns (now (work .entry)) .total day ⌝ }
+{
+    work[day].total
 }
 
-// The run that begins on a day.
-pub(crate) fn run_from<K: Total>(work: &[WorkEntry<K>], first: usize) -> Run {
-    let last = if first < work.len() {
-        work[first].other
-    } else {
-        first
+// The other end of the run that begins or ends on a day.
+pub(crate) fn other_at<K: Total>(work: &[WorkEntry<K>], day: usize) -> usize
+    requires { ⌜ day < length (now work) ⌝ }
+    ensures { λ r. ⌜ r ≡ view kind columns (now (work .entry)) .other day ⌝ }
+{
+    work[day].other
+}
+
+pub(crate) fn mark_at<K: Total>(work: &[WorkEntry<K>], number: usize) -> usize
+    requires { ⌜ number < length (now work) ⌝ }
+    ensures { λ r. ⌜ r ≡ view kind columns (now (work .entry)) .mark number ⌝ }
+{
+    work[number].mark
+}
+
+pub(crate) fn set_mark<K: Total>(work: &mut [WorkEntry<K>], number: usize, first: usize)
+    requires { ⌜ number < length (now work) ⌝ }
+    ensures { λ _. ⌜ view kind columns (now (work .exit)) ≡ with-mark (view kind columns (now (work .entry))) number first ⌝ }
+{
+    let old = work[number];
+    work[number] = WorkEntry {
+        total: old.total,
+        other: old.other,
+        mark: first,
     };
-    Run { first, last }
-}
-
-// The run that ends on a day.
-pub(crate) fn run_to<K: Total>(work: &[WorkEntry<K>], last: usize) -> Run {
-    let first = if last < work.len() {
-        work[last].other
-    } else {
-        last
-    };
-    Run { first, last }
-}
-
-pub(crate) fn mark_at<K: Total>(work: &[WorkEntry<K>], number: usize) -> usize {
-    if number < work.len() {
-        work[number].mark
-    } else {
-        0
-    }
-}
-
-pub(crate) fn set_mark<K: Total>(work: &mut [WorkEntry<K>], number: usize, first: usize) {
-    if number < work.len() {
-        let old = work[number];
-        work[number] = WorkEntry {
-            total: old.total,
-            other: old.other,
-            mark: first,
-        };
-    }
 }
 
 // Makes a run of days that hold one total: its two ends are written, and nothing between them.
-pub(crate) fn set_run<K: Total>(work: &mut [WorkEntry<K>], run: Run, total: K) {
+pub(crate) fn set_run<K: Total>(work: &mut [WorkEntry<K>], run: Run, total: K)
+    requires { ⌜ run .first < length (now work) ⌝ }
+    requires { ⌜ run .last < length (now work) ⌝ }
+    ensures { λ _. ⌜ view kind columns (now (work .exit)) ≡ with-run (view kind columns (now (work .entry))) (run .first) (run .last) (columns total) ⌝ }
+{
     set_end(work, run.first, run.last, total);
     set_end(work, run.last, run.first, total);
 }
 
-fn set_end<K: Total>(work: &mut [WorkEntry<K>], day: usize, other: usize, total: K) {
-    if day < work.len() {
-        let mark = work[day].mark;
-        work[day] = WorkEntry { total, other, mark };
-    }
+fn set_end<K: Total>(work: &mut [WorkEntry<K>], day: usize, other: usize, total: K)
+    requires { ⌜ day < length (now work) ⌝ }
+    ensures { λ _. ⌜ view kind columns (now (work .exit)) ≡ with-end (view kind columns (now (work .entry))) day other (columns total) ⌝ }
+{
+    let mark = work[day].mark;
+    work[day] = WorkEntry { total, other, mark };
 }
 
-pub(crate) fn same<K: Total>(a: K, b: K) -> bool {
+// Whether two totals are equal.
+pub(crate) fn same<K: Total>(a: K, b: K) -> bool
+    ensures { λ r. ⌜ When r (columns a ≡ columns b) (columns a ≡ columns b → ⊥) ⌝ }
+{
     match a.compare(b) {
         Ordering::Equal => true,
         Ordering::Less => false,

@@ -5,7 +5,7 @@ use mathlib.Core.Path.{_≡_}
 use Prim.Native.Nat.{ℕ, _<_, _≤_}
 use lib.Dec.{eqb}
 use lib.IntN.{ℤ}
-use lib.ListN.{length, getD, set}
+use lib.ListN.{length, getD}
 use base.Fml.{GName}
 use denote.Ref.{RefT, name}
 use Rattle.std.specs.declared.option.Option.{Option}
@@ -31,14 +31,9 @@ abbrev pub number : Mark → ℕ
 number In = 0
 number Out = 1
 
--- the mark of a number, if it is one
-abbrev pub mark : ℕ → Option Mark
-mark n = cond (eqb n 0) (Some In) (cond (eqb n 1) (Some Out) None)
-
--- whether a mark is out
-abbrev pub outside-mark : Mark → Bool
-outside-mark In = false
-outside-mark Out = true
+-- the mark of a number, if it is one's
+abbrev pub mark-of : ℕ → Option Mark
+mark-of n = cond (eqb n 0) (Some In) (cond (eqb n 1) (Some Out) None)
 
 -- columns as a list
 abbrev pub listed : (a : Arity) → Columns a → List ℤ
@@ -83,3 +78,8 @@ Holds k columns e (Some row) = (row .mark ≤ 1) × (e ≡ shown k columns row)
 abbrev pub Read : {V : Type 0} (k : Kind) → (V → Of k) → List (Option Entry) → ℕ → Result (Option (Row V)) NoSuchSlot → Type 0
 Read k columns slots slot (Ok r) = (slot < length slots) × Holds k columns (getD slots slot None) r
 Read k columns slots slot (Err no-such) = length slots ≤ slot
+
+-- what a read answers of a slot into which a row was put just before: that row comes back
+abbrev pub Comes-back : {V : Type 0} (k : Kind) → (V → Of k) → ℕ → ℕ → Row V → Result (Option (Row V)) NoSuchSlot → Type 0
+Comes-back k columns capacity slot row (Ok r) = (slot < capacity) × Holds k columns (shown k columns row) r
+Comes-back k columns capacity slot row (Err no-such) = capacity ≤ slot

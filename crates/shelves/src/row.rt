@@ -1,5 +1,5 @@
 // Whether a row's pulse stands or was taken out.
-#[derive(Clone, Copy)]
+#[derive(Clone, Copy, PartialEq, Eq, Debug)]
 pub enum Mark {
     In,
     Out,
@@ -16,5 +16,5 @@ pub struct Row<K> {
 }
 
 // The slot's number is not below the capacity.
-#[derive(Clone, Copy)]
+#[derive(Clone, Copy, PartialEq, Eq, Debug)]
 pub struct NoSuchSlot;

@@ -1,11 +1,11 @@
 // A shelf over lent rows.
 ghost use mathlib.Core.Path.{_≡_};
-ghost use mathlib.Core.List.{[]};
 ghost use lib.ListN.{length, set};
-ghost use denote.Ref.{now, name};
+ghost use denote.Ref.{now};
 ghost use Rattle.shelves.specs.Slots.{over-rows, shown, shown-rows, Put, Read};
 use crate::row::NoSuchSlot;
 use crate::row::Row;
+use crate::rows::is_mark;
 use crate::shelf::OverRows;
 use crate::shelf::Shelf;
 use kinds::Total;
@@ -16,6 +16,7 @@ pub struct RowShelf<'a, K> {
     rows: &'a mut [Row<K>],
 }
 
+// How many slots lent rows have.
 fn row_count<K: Total>(rows: &[Row<K>]) -> usize
     ensures { λ r. ⌜ r ≡ length (shown-rows kind columns (now (rows .entry))) ⌝ }
 {
@@ -36,12 +37,13 @@ fn put_row<K: Total>(rows: &mut [Row<K>], slot: usize, row: Row<K>) -> Result<()
     }
 }
 
+// The row in a slot, unless it is blank.
 fn read_row<K: Total>(rows: &[Row<K>], slot: usize) -> Result<Option<Row<K>>, NoSuchSlot>
     ensures { λ r. ⌜ Read kind columns (shown-rows kind columns (now (rows .entry))) slot r ⌝ }
 {
     if slot < rows.len() {
         let row = rows[slot];
-        if row.mark <= 1 {
+        if is_mark(row.mark) {
             Ok(Some(row))
         } else {
             Ok(None)
@@ -61,6 +63,7 @@ pub impl<'a, K: Total> Shelf<K> for RowShelf<'a, K> as RowShelfIsShelf {
         row_count(rows)
     }
 
+    // The clauses of every shelf, and beside them the row that changes.
     fn put(&mut self, slot: usize, row: &Row<K>) -> Result<(), NoSuchSlot>
         ensures answer { λ r. ⌜ Put (length (shown-rows kind columns (now (now (self .entry) .rows)))) slot (now (self .entry)) (now (self .exit)) r ⌝ }
         ensures slots { λ _. ⌜ shown-rows kind columns (now (now (self .exit) .rows)) ≡ set (shown-rows kind columns (now (now (self .entry) .rows))) slot (shown kind columns (now (row .entry))) ⌝ }

@@ -1,10 +1,18 @@
 // What a row's numbers say.
 ghost use mathlib.Core.Path.{_≡_};
-ghost use Rattle.shelves.specs.Slots.{number, mark as stood};
+ghost use lib.Dec.{leb};
+ghost use Rattle.shelves.specs.Slots.{mark-of, number};
 ghost use Rattle.shelves.specs.Stretches.{Stretch-of};
 use crate::row::Mark;
 use crate::row::Row;
 use crate::stretch::Stretch;
+
+// Whether a number is a mark's.
+pub(crate) fn is_mark(number: u8) -> bool
+    ensures { λ r. ⌜ r ≡ leb number 1 ⌝ }
+{
+    number <= 1
+}
 
 impl Mark {
     // 0 for in, 1 for out.
@@ -21,7 +29,7 @@ impl Mark {
 impl<K> Row<K> {
     // The mark, or nothing where the number is no mark's: such a row is blank.
     pub fn state(&self) -> Option<Mark>
-        ensures { λ r. ⌜ r ≡ stood (now (self .entry) .mark) ⌝ }
+        ensures { λ r. ⌜ r ≡ mark-of (now (self .entry) .mark) ⌝ }
     {
         if self.mark == 0 {
             Some(Mark::In)

@@ -1,9 +1,9 @@
 // What a shelf is to everything above.
 ghost use mathlib.Core.Path.{_≡_};
-ghost use mathlib.Core.List.{List, []};
+ghost use mathlib.Core.List.{List};
 ghost use lib.ListN.{length, set};
-ghost use denote.Ref.{name};
 ghost use Rattle.std.specs.declared.option.Option.{Option as Maybe};
+ghost use Rattle.shelves.specs.Bytes.{over-bytes, shown-bytes};
 ghost use Rattle.shelves.specs.Slots.{Entry, Outside, over-rows, Put, Read, shown, shown-rows};
 use crate::row::NoSuchSlot;
 use crate::row::Row;
@@ -37,4 +37,12 @@ pub trait OverRows<'a, K: Total>: Shelf<K> {
     fn over(rows: &'a mut [Row<K>]) -> Self
         ensures slots { λ r. ⌜ Self·Shelf .slots r ≡ shown-rows kind columns (now (rows .entry)) ⌝ }
         ensures outside { λ r. ⌜ Self·Shelf .outside r ≡ over-rows (rows .entry) ⌝ };
+}
+
+// A shelf over lent bytes.
+pub trait OverBytes<'a, K: Total>: Shelf<K> {
+    // As many slots as whole slots fit; the bytes past them never change.
+    fn over(bytes: &'a mut [u8]) -> Self
+        ensures slots { λ r. ⌜ Self·Shelf .slots r ≡ shown-bytes kind (now (bytes .entry)) ⌝ }
+        ensures outside { λ r. ⌜ Self·Shelf .outside r ≡ over-bytes kind (bytes .entry) ⌝ };
 }

@@ -1,0 +1,4 @@
+pub mod Takes
+pub mod Work
+pub mod Runs
+pub mod Passes
