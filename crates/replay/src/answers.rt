@@ -51,7 +51,11 @@ fn state_of(mark: Mark) -> &'static str {
     }
 }
 
-pub fn print_pulse<K: Total>(rt: &LibcRuntime, number: usize, answer: Result<ListedPulse<K>, Stop>) -> io::Result<()> {
+pub fn print_pulse<K: Total>(
+    rt: &LibcRuntime,
+    number: usize,
+    answer: Result<ListedPulse<K>, Stop>,
+) -> io::Result<()> {
     match answer {
         Ok(pulse) => {
             let width = pulse.stretch.width;

@@ -53,9 +53,14 @@ fn over_rows<K: Total>(rt: &LibcRuntime, script: &mut Script, size: usize) -> Re
 }
 
 // A script on a sheet over bytes.
-fn over_bytes<K: Total>(rt: &LibcRuntime, script: &mut Script, size: usize) -> Result<(), AnyError> {
+fn over_bytes<K: Total>(
+    rt: &LibcRuntime,
+    script: &mut Script,
+    size: usize,
+) -> Result<(), AnyError> {
     let mut bytes = vec![in rt.alloc(); 0u8; size]?;
-    let mut sheet: Sheet<K, ByteShelf<K>> = Sheet::new(ByteShelfOverBytes::over(bytes.as_mut_slice()));
+    let mut sheet: Sheet<K, ByteShelf<K>> =
+        Sheet::new(ByteShelfOverBytes::over(bytes.as_mut_slice()));
     let asked = play(rt, script, &mut sheet)?;
     drop(sheet);
     if asked {
@@ -64,7 +69,12 @@ fn over_bytes<K: Total>(rt: &LibcRuntime, script: &mut Script, size: usize) -> R
     Ok(())
 }
 
-fn on_sheet<K: Total>(rt: &LibcRuntime, script: &mut Script, storage: Storage, size: usize) -> Result<(), AnyError> {
+fn on_sheet<K: Total>(
+    rt: &LibcRuntime,
+    script: &mut Script,
+    storage: Storage,
+    size: usize,
+) -> Result<(), AnyError> {
     match storage {
         Storage::Rows => over_rows::<K>(rt, script, size),
         Storage::Bytes => over_bytes::<K>(rt, script, size),

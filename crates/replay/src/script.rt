@@ -163,13 +163,7 @@ fn number_of(word: &[u8]) -> Option<usize> {
 
 fn within_most(word: &[u8]) -> Option<usize> {
     match number_of(word) {
-        Some(number) => {
-            if number <= MOST {
-                Some(number)
-            } else {
-                None
-            }
-        }
+        Some(number) => { if number <= MOST { Some(number) } else { None } }
         None => None,
     }
 }

@@ -20,7 +20,11 @@ use text::read_trace;
 const MOST_DAYS: usize = 1000;
 
 // Answers the script's lines up to its end or the question for the memory; true where that came.
-pub fn play<K: Total, S: Shelf<K>>(rt: &LibcRuntime, script: &mut Script, sheet: &mut Sheet<K, S>) -> Result<bool, AnyError> {
+pub fn play<K: Total, S: Shelf<K>>(
+    rt: &LibcRuntime,
+    script: &mut Script,
+    sheet: &mut Sheet<K, S>,
+) -> Result<bool, AnyError> {
     for _ in 0..script.left() {
         let Some(command) = script.command() else {
             return Ok(false);
@@ -35,7 +39,11 @@ pub fn play<K: Total, S: Shelf<K>>(rt: &LibcRuntime, script: &mut Script, sheet:
 }
 
 // The calls that mark pulses, and the questions.
-fn answer<K: Total, S: Shelf<K>>(rt: &LibcRuntime, sheet: &mut Sheet<K, S>, command: Command) -> Result<(), AnyError> {
+fn answer<K: Total, S: Shelf<K>>(
+    rt: &LibcRuntime,
+    sheet: &mut Sheet<K, S>,
+    command: Command,
+) -> Result<(), AnyError> {
     match command {
         Command::Remove(low, high) => print_count(rt, sheet.remove(low, high))?,
         Command::Restore(low, high) => print_count(rt, sheet.restore(low, high))?,
@@ -70,7 +78,12 @@ fn text_of(rt: &LibcRuntime, script: &mut Script) -> Result<Vec<u8>, AnyError> {
 }
 
 // Reads the text that follows and takes its record.
-fn take<K: Total, S: Shelf<K>>(rt: &LibcRuntime, script: &mut Script, sheet: &mut Sheet<K, S>, entries: usize) -> Result<(), AnyError> {
+fn take<K: Total, S: Shelf<K>>(
+    rt: &LibcRuntime,
+    script: &mut Script,
+    sheet: &mut Sheet<K, S>,
+    entries: usize,
+) -> Result<(), AnyError> {
     let text = text_of(rt, script)?;
     let mut totals = vec![in rt.alloc(); K::zero(); MOST_DAYS]?;
     let mut work = vec![in rt.alloc(); WorkEntry::<K>::new(); entries]?;
@@ -91,7 +104,11 @@ fn take<K: Total, S: Shelf<K>>(rt: &LibcRuntime, script: &mut Script, sheet: &mu
 }
 
 // The standing trace through a list of so many entries.
-fn trace<K: Total, S: Shelf<K>>(rt: &LibcRuntime, sheet: &Sheet<K, S>, room: usize) -> Result<(), AnyError> {
+fn trace<K: Total, S: Shelf<K>>(
+    rt: &LibcRuntime,
+    sheet: &Sheet<K, S>,
+    room: usize,
+) -> Result<(), AnyError> {
     let mut totals = vec![in rt.alloc(); K::zero(); room]?;
     match sheet.trace(totals.as_mut_slice()) {
         Ok(days) => match totals.as_slice().get(0..days) {

@@ -63,11 +63,11 @@ module _ (K : Kind) (xs : Record K) (entries capacity : ℕ) (A : Accepted K xs 
   enter-below : (n d : ℕ) → d < n → 1 ≤ d → d ≤ length xs → within (K .arity) (K .bound) (trace K xs d) ≡ true
   enter-below zero d h = absurd (omega arith)
   enter-below (suc n) d h = elim (cases-lt d n) [
-      inl l ↦ enter-below n d l
+    | inl l ↦ enter-below n d l
     | inr l ↦ λ s e. elim (cases-bool (within (K .arity) (K .bound) (trace K xs d))) [
-        inl q ↦ q
+      | inl q ↦ q
       | inr q ↦ absurd (A (MayNotEnter d) (record { starts = s; ends = e; barred = q; first = λ i f g. enter-below n i (omega arith) f (omega arith) }))
-      ]
+    ]
   ]
 
   pub accepted-enter : Barred-day K xs None

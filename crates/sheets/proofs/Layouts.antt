@@ -43,7 +43,7 @@ module _ {X : Type 0} (m : ℕ) (x : ℕ → X) (v : View X) (first marks day : 
         within = λ i h. let z = A .within i h in omega arith;
         begins = A .begins;
         all = λ s h l n. elim (cases-lt s (suc day)) [
-            inl g ↦ A .all s h (omega arith) n
+          | inl g ↦ A .all s h (omega arith) n
           | inr g ↦ absurd (n (ap x (omega arith) ∙ (A .level day o (omega arith) ∙ (q ∙ ap x (omega arith)))))
         ];
       }
@@ -72,19 +72,19 @@ module _ {X : Type 0} (m : ℕ) (x : ℕ → X) (v : View X) (first marks day : 
         knows = knows-more m v x first day (A .knows) (run-closed (omega arith) (λ _. n));
         few = omega arith;
         rising = λ i j g l. elim (cases-lt j marks) [
-            inl k ↦ rw (put-other (v .mark) marks (suc day) i (λ e. omega arith), put-other (v .mark) marks (suc day) j (λ e. omega arith)) (A .rising i j g k)
+          | inl k ↦ rw (put-other (v .mark) marks (suc day) i (λ e. omega arith), put-other (v .mark) marks (suc day) j (λ e. omega arith)) (A .rising i j g k)
           | inr k ↦ rw (put-other (v .mark) marks (suc day) i (λ e. omega arith), put-same (v .mark) marks (suc day) j (omega arith)) (let z = A .within i (omega arith) in omega arith)
         ];
         within = λ i g. elim (cases-lt i marks) [
-            inl k ↦ rw (put-other (v .mark) marks (suc day) i (λ e. omega arith)) (let z = A .within i k in omega arith)
+          | inl k ↦ rw (put-other (v .mark) marks (suc day) i (λ e. omega arith)) (let z = A .within i k in omega arith)
           | inr k ↦ rw (put-same (v .mark) marks (suc day) i (omega arith)) (omega arith)
         ];
         begins = λ i g. elim (cases-lt i marks) [
-            inl k ↦ rw (put-other (v .mark) marks (suc day) i (λ e. omega arith)) (A .begins i k)
+          | inl k ↦ rw (put-other (v .mark) marks (suc day) i (λ e. omega arith)) (A .begins i k)
           | inr k ↦ rw (put-same (v .mark) marks (suc day) i (omega arith)) (λ l q. n (sym (A .level day o (omega arith)) ∙ (ap x (omega arith) ∙ q)))
         ];
         all = λ s g l k. elim (cases-lt s (suc day)) [
-            inl j ↦ let w = A .all s g (omega arith) k in (w .0, let z = w .1 in omega arith, put-other (v .mark) marks (suc day) (w .0) (let z = w .1 in λ e. omega arith) ∙ w .2)
+          | inl j ↦ let w = A .all s g (omega arith) k in (w .0, let z = w .1 in omega arith, put-other (v .mark) marks (suc day) (w .0) (let z = w .1 in λ e. omega arith) ∙ w .2)
           | inr j ↦ (marks, omega arith, new ∙ omega arith)
         ];
       }
@@ -105,5 +105,6 @@ laid-marks K O m x v first marks A =
     moves : (p w : ℕ) → Turn K x p w → x p ≡ x (suc p) → ⊥
     moves p w (inl B) q = not-itself K O _ _ q (B .rises)
     moves p w (inr B) q = not-itself K O _ _ (sym q) (B .rises)
+
     from : (p : ℕ) → (x p ≡ x (suc p) → ⊥) → p < m → (i : ℕ) × (0 ≤ i) × (i < marks) × (v .mark i ≡ suc p)
     from p n l = let w = A .all (suc p) (omega arith) l (λ q. n (ap x (omega arith) ∙ q)) in (w .0, omega arith, w .1, w .2)

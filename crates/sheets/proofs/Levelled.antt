@@ -26,32 +26,32 @@ module _ (K : Kind) (O : Lawful K) (m : ℕ) (z y : Trace K) (s e s′ e′ : �
 
   level-left : (d : ℕ) → s′ ≤ d → d < s → y d ≡ t
   level-left d h l = before d l ∙ elim left [
-      inl (q, Q) ↦ Q .level d h (omega arith) ∙ (sym (Q .level (s - 1) (Q .order) (omega arith)) ∙ q)
+    | inl (q, Q) ↦ Q .level d h (omega arith) ∙ (sym (Q .level (s - 1) (Q .order) (omega arith)) ∙ q)
     | inr (q, o) ↦ absurd (omega arith)
   ]
 
   level-right : (d : ℕ) → e < d → d ≤ e′ → y d ≡ t
   level-right d h l = after d h ∙ elim right [
-      inl (q, Q) ↦ Q .level d h l ∙ q
+    | inl (q, Q) ↦ Q .level d h l ∙ q
     | inr (q, o) ↦ absurd (omega arith)
   ]
 
   pub one-total : (d : ℕ) → s′ ≤ d → d ≤ e′ → y d ≡ t
   one-total d h l = elim (cases-lt d s) [
-      inl g ↦ level-left d h g
+    | inl g ↦ level-left d h g
     | inr g ↦ elim (cases-lt e d) [ inl f ↦ level-right d f l | inr f ↦ on d g f ]
   ]
 
   -- where the new run begins and ends, a run of z did
   pub begun : 0 < s′ → z (s′ - 1) ≡ z s′ → ⊥
   begun h q = elim left [
-      inl (p, Q) ↦ Q .begins h q
+    | inl (p, Q) ↦ Q .begins h q
     | inr (p, o) ↦ R .begins first (ap z (omega arith) ∙ (q ∙ ap z o))
   ]
 
   pub ended : e′ < m → z (suc e′) ≡ z e′ → ⊥
   ended h q = elim right [
-      inl (p, Q) ↦ Q .ends h q
+    | inl (p, Q) ↦ Q .ends h q
     | inr (p, o) ↦ R .ends last (ap z (omega arith) ∙ (q ∙ ap z o))
   ]
 
@@ -65,11 +65,11 @@ module _ (K : Kind) (O : Lawful K) (m : ℕ) (z y : Trace K) (s e s′ e′ : �
         end = elim right [ inl (p, Q) ↦ Q .end | inr (p, o) ↦ omega arith ];
         level = λ d h l. one-total d h l ∙ sym (one-total s′ (omega arith) (omega arith));
         begins = λ h q. elim left [
-            inl (p, Q) ↦ let o = Q .order in Q .begins h (sym (before (s′ - 1) (omega arith)) ∙ (q ∙ before s′ (omega arith)))
+          | inl (p, Q) ↦ let o = Q .order in Q .begins h (sym (before (s′ - 1) (omega arith)) ∙ (q ∙ before s′ (omega arith)))
           | inr (p, o) ↦ p (ap z (omega arith) ∙ (sym (before (s′ - 1) (omega arith)) ∙ (q ∙ one-total s′ (omega arith) (omega arith))))
         ];
         ends = λ h q. elim right [
-            inl (p, Q) ↦ let o = Q .order in Q .ends h (sym (after (suc e′) (omega arith)) ∙ (q ∙ after e′ (omega arith)))
+          | inl (p, Q) ↦ let o = Q .order in Q .ends h (sym (after (suc e′) (omega arith)) ∙ (q ∙ after e′ (omega arith)))
           | inr (p, o) ↦ p (ap z (omega arith) ∙ (sym (after (suc e′) (omega arith)) ∙ (q ∙ one-total e′ (omega arith) (omega arith))))
         ];
       }
@@ -90,7 +90,7 @@ module _ (K : Kind) (O : Lawful K) (m : ℕ) (z y : Trace K) (s e s′ e′ : �
         level = λ d f l. sym (before d (omega arith)) ∙ (B .level d f l ∙ before (suc p) (omega arith));
         rises = rw (← before p (omega arith), ← before (suc p) (omega arith)) (B .rises);
         falls = elim (cases-lt (suc (p + w)) s) [
-            inl g ↦ rw (← before (suc (p + w)) g, ← before (suc p) (omega arith)) (B .falls)
+          | inl g ↦ rw (← before (suc (p + w)) g, ← before (suc p) (omega arith)) (B .falls)
           | inr g ↦ absurd (not-below K O _ _ low-left
               (rw (on (suc (p + w)) (omega arith) (let o = R .order in omega arith), (sym (B .level (p + w) (omega arith) (omega arith)) ∙ (before (p + w) (omega arith) ∙ ap z (let o : p + w ≡ s - 1 = omega arith in o)))) at (B .falls)))
         ];
@@ -103,7 +103,7 @@ module _ (K : Kind) (O : Lawful K) (m : ℕ) (z y : Trace K) (s e s′ e′ : �
         level = λ d f l. sym (before d (omega arith)) ∙ (B .level d f l ∙ before (suc p) (omega arith));
         rises = rw (← before p (omega arith), ← before (suc p) (omega arith)) (B .rises);
         falls = elim (cases-lt (suc (p + w)) s) [
-            inl g ↦ rw (← before (suc (p + w)) g, ← before (suc p) (omega arith)) (B .falls)
+          | inl g ↦ rw (← before (suc (p + w)) g, ← before (suc p) (omega arith)) (B .falls)
           | inr g ↦ rw (sym (before (suc p) (omega arith)) ∙ (sym (B .level (p + w) (omega arith) (omega arith)) ∙ (before (p + w) (omega arith) ∙ ap z (let o : p + w ≡ s - 1 = omega arith in o))), let o : suc (p + w) ≡ s = omega arith in o) up
         ];
       })
@@ -116,7 +116,7 @@ module _ (K : Kind) (O : Lawful K) (m : ℕ) (z y : Trace K) (s e s′ e′ : �
         some = B .some;
         level = λ d f l. sym (after d (omega arith)) ∙ (B .level d f l ∙ after (suc p) (omega arith));
         rises = elim (cases-lt e p) [
-            inl g ↦ rw (← after p g, ← after (suc p) (omega arith)) (B .rises)
+          | inl g ↦ rw (← after p g, ← after (suc p) (omega arith)) (B .rises)
           | inr g ↦ absurd (not-below K O _ _ low-right
               (rw (on p (let o = R .order in omega arith) (omega arith), after (suc p) (omega arith), let o : p ≡ e = omega arith in o) at (B .rises)))
         ];
@@ -129,7 +129,7 @@ module _ (K : Kind) (O : Lawful K) (m : ℕ) (z y : Trace K) (s e s′ e′ : �
         some = B .some;
         level = λ d f l. sym (after d (omega arith)) ∙ (B .level d f l ∙ after (suc p) (omega arith));
         rises = elim (cases-lt e p) [
-            inl g ↦ rw (← after p g, ← after (suc p) (omega arith)) (B .rises)
+          | inl g ↦ rw (← after p g, ← after (suc p) (omega arith)) (B .rises)
           | inr g ↦ rw (let o : p ≡ e = omega arith in o, R .level e (R .order) (omega arith)) down
         ];
         falls = rw (← after (suc (p + w)) (omega arith), ← after (suc p) (omega arith)) (B .falls);

@@ -11,3 +11,11 @@ mod Amounts
 mod Visits
 mod Sweeps
 mod Splits
+mod Slots
+mod History
+mod Bounds
+mod Adding
+mod Shown
+mod Asked
+mod Promised
+mod Led

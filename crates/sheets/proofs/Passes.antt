@@ -61,7 +61,7 @@ pub in-turn-none : {A : Type 0} (f : ℕ → List A) (r e : ℕ) → r ≤ e →
 unfolding in-turn
 in-turn-none f r zero h none = let q : zero ≡ r = omega arith in ap (λ k. in-turn k f) q
 in-turn-none f r (suc e) h none = elim (cases-lt e r) [
-    inl g ↦ let q : suc e ≡ r = omega arith in ap (λ k. in-turn k f) q
+  | inl g ↦ let q : suc e ≡ r = omega arith in ap (λ k. in-turn k f) q
   | inr g ↦ ap (λ l. in-turn e f ++ l) (none e g (omega arith)) ∙ (append-nil (in-turn e f) ∙ in-turn-none f r e g (λ c k l. none c k (omega arith)))
 ]
 
@@ -95,32 +95,35 @@ module _ (K : Kind) (O : Lawful K) (n N : ℕ) (some : 0 < n) (x : Trace K) (A :
     where
       found : (p : ℕ) → ((j : ℕ) × (i ≤ j) × (j < hi) × (v .mark j ≡ suc p)) → r ≤ p → (j : ℕ) × (suc i ≤ j) × (j < hi) × (v .mark j ≡ suc p)
       found p (j, f, g, q) k = elim (cases-eq j i) [
-          inl e ↦ absurd (let z : v .mark j ≡ v .mark i = ap (v .mark) e in omega arith)
+        | inl e ↦ absurd (let z : v .mark j ≡ v .mark i = ap (v .mark) e in omega arith)
         | inr e ↦ (j, omega arith, g, q)
       ]
 
   -- no marks are left: the pass is done
   pub pass-ends : hi ≤ i → (spliced K n x r ≡ L K n x) × Marks K (spliced K n x r) (v .mark) 0 kept 0 (suc N) × ((c : ℕ) → r ≤ c → Bump K x c n → ⊥)
-  pass-ends h =
-      ( spliced-all,
-        record {
-          rising = M .early .rising;
-          within = λ a f g k. let b = M .early .within a f g k in let c = M .reach in omega arith;
-          begins = M .early .begins;
-          turns = λ p w T f g. elim (cases-lt p r) [ inl l ↦ M .early .turns p w T f l | inr l ↦ absurd (none-left p w T l g) ];
-        },
-        none )
+  pass-ends h = (
+    spliced-all,
+    record {
+      rising = M .early .rising;
+      within = λ a f g k. let b = M .early .within a f g k in let c = M .reach in omega arith;
+      begins = M .early .begins;
+      turns = λ p w T f g. elim (cases-lt p r) [ inl l ↦ M .early .turns p w T f l | inr l ↦ absurd (none-left p w T l g) ];
+    },
+    none,
+  )
     where
       none-left : (p w : ℕ) → Turn K (spliced K n x r) p w → r ≤ p → p < suc N → ⊥
       none-left p w T f g = let j = M .ahead .turns p w T f g in let a = j .1 in let b = j .2 in omega arith
+
       none : (c : ℕ) → r ≤ c → Bump K x c n → ⊥
       none c f B =
           let C = bump-seen K O n N x A o r (M .clear) c f B in
           let w = turn-within K O (turned-lawful K O) N (spliced K n x r) (spliced-outside K O n N x o r) c n (inl C) in
           none-left c n (inl C) f (omega arith)
+
       spliced-all : spliced K n x r ≡ L K n x
       spliced-all = λ j d. (elim (cases-lt r d) as (λ _. spliced K n x r d ≡ L K n x d) [
-          inl f ↦ spliced-past K n x r d f ∙ sym (kept-days K O n N x A o r (M .clear) d (λ p a b. none p a) d f (omega arith))
+        | inl f ↦ spliced-past K n x r d f ∙ sym (kept-days K O n N x A o r (M .clear) d (λ p a b. none p a) d f (omega arith))
         | inr f ↦ spliced-upto K n x r d f
       ]) j
 
@@ -133,7 +136,7 @@ module _ (K : Kind) (O : Lawful K) (n N : ℕ) (some : 0 < n) (x : Trace K) (A :
         let j = M .ahead .turns p w T h (omega arith) in
         let a = Q .order in
         let f : s ≤ suc p = elim (cases-eq (j .0) i) [
-            inl q ↦ let b : v .mark (j .0) ≡ v .mark i = ap (v .mark) q in let d = j .3 in omega arith
+          | inl q ↦ let b : v .mark (j .0) ≡ v .mark i = ap (v .mark) q in let d = j .3 in omega arith
           | inr q ↦ let b = j .1 in let d = j .3 in let g = M .ahead .rising i (j .0) (omega arith) (omega arith) (j .2) in omega arith
         ] in
         run-same (suc N) (spliced K n x r) s e (suc p) (p + w) R Q (omega arith) l .0
@@ -152,7 +155,7 @@ module _ (K : Kind) (O : Lawful K) (n N : ℕ) (some : 0 < n) (x : Trace K) (A :
       where
         found : (p : ℕ) → ((j : ℕ) × (i ≤ j) × (j < hi) × (v .mark j ≡ suc p)) → u ≤ p → (j : ℕ) × (suc i ≤ j) × (j < hi) × (mark j ≡ suc p)
         found p (j, f, g, q) k = elim (cases-eq j i) [
-            inl a ↦ absurd (let b : v .mark j ≡ v .mark i = ap (v .mark) a in omega arith)
+          | inl a ↦ absurd (let b : v .mark j ≡ v .mark i = ap (v .mark) a in omega arith)
           | inr a ↦ (j, omega arith, g, like j (omega arith) ∙ q)
         ]
 
@@ -180,7 +183,7 @@ module _ (K : Kind) (O : Lawful K) (n N : ℕ) (some : 0 < n) (x : Trace K) (A :
               within = λ j f g k. let b = M .early .within j f g k in omega arith;
               begins = M .early .begins;
               turns = λ p w T f g. elim (cases-lt p r) [
-                  inl l ↦ M .early .turns p w T f l
+                | inl l ↦ M .early .turns p w T f l
                 | inr l ↦ absurd (let q = first-turn p w T l g in no-turn w (rw (let k : s - 1 ≡ p = omega arith in k) T))
               ];
             });
@@ -199,19 +202,19 @@ module _ (K : Kind) (O : Lawful K) (n N : ℕ) (some : 0 < n) (x : Trace K) (A :
             behind = omega arith;
             early = rw same (record {
               rising = λ j k f g l. elim (cases-lt k kept) [
-                  inl h ↦ rw (put-other (v .mark) kept s j (λ q. omega arith), put-other (v .mark) kept s k (λ q. omega arith)) (M .early .rising j k f g h)
+                | inl h ↦ rw (put-other (v .mark) kept s j (λ q. omega arith), put-other (v .mark) kept s k (λ q. omega arith)) (M .early .rising j k f g h)
                 | inr h ↦ rw (put-other (v .mark) kept s j (λ q. omega arith), put-same (v .mark) kept s k (omega arith)) (below j (omega arith))
               ];
               within = λ j f g. elim (cases-lt j kept) [
-                  inl h ↦ rw (put-other (v .mark) kept s j (λ q. omega arith)) (λ l. let z = below j h in omega arith)
+                | inl h ↦ rw (put-other (v .mark) kept s j (λ q. omega arith)) (λ l. let z = below j h in omega arith)
                 | inr h ↦ rw (put-same (v .mark) kept s j (omega arith)) (λ l. omega arith)
               ];
               begins = λ j f g. elim (cases-lt j kept) [
-                  inl h ↦ rw (put-other (v .mark) kept s j (λ q. omega arith)) (M .early .begins j f h)
+                | inl h ↦ rw (put-other (v .mark) kept s j (λ q. omega arith)) (M .early .begins j f h)
                 | inr h ↦ rw (put-same (v .mark) kept s j (omega arith)) (λ l. R .begins (omega arith))
               ];
               turns = λ p w T f g. elim (cases-lt p r) [
-                  inl l ↦ old p (M .early .turns p w T f l)
+                | inl l ↦ old p (M .early .turns p w T f l)
                 | inr l ↦ (kept, omega arith, omega arith, put-same (v .mark) kept s kept refl ∙ first-turn p w T l g)
               ];
             });
@@ -220,6 +223,7 @@ module _ (K : Kind) (O : Lawful K) (n N : ℕ) (some : 0 < n) (x : Trace K) (A :
         where
           below : (j : ℕ) → j < kept → v .mark j < s
           below j h = elim (cases-lt 0 (v .mark j)) [ inl l ↦ let z = M .early .within j (omega arith) h l in omega arith | inr l ↦ omega arith ]
+
           old : (p : ℕ) → ((j : ℕ) × (0 ≤ j) × (j < kept) × (v .mark j ≡ suc p)) → (j : ℕ) × (0 ≤ j) × (j < suc kept) × (put (v .mark) kept s j ≡ suc p)
           old p (j, f, g, q) = (j, f, omega arith, put-other (v .mark) kept s j (λ e. omega arith) ∙ q)
 
@@ -265,14 +269,14 @@ module _ (K : Kind) (O : Lawful K) (n N : ℕ) (some : 0 < n) (x : Trace K) (A :
       none-after p h l B =
           let C = bump-seen K O n N x A o r (M .clear) p (omega arith) B in
           elim (cases-lt p e) [
-            inl g ↦ let q = first-turn p n (inl C) (omega arith) g in omega arith
-          | inr g ↦ elim right [
-              inl (q, Q) ↦
-                let T = turn-run K O (turned-lawful K O) N (spliced K n x r) (spliced-outside K O n N x o r) p n (inl C) in
-                let a = run-same (suc N) (spliced K n x r) (suc e) e′ (suc p) (p + n) Q T (let b = T .order in omega arith) l in
-                let b : p ≡ e = let c = a .0 in omega arith in
-                not-below K O _ _ (O .one-way _ _ (rw (sym (R .level e (R .order) (omega arith))) at down)) (rw b at (C .rises))
-            | inr (q, u) ↦ omega arith
+            | inl g ↦ let q = first-turn p n (inl C) (omega arith) g in omega arith
+            | inr g ↦ elim right [
+              | inl (q, Q) ↦
+                  let T = turn-run K O (turned-lawful K O) N (spliced K n x r) (spliced-outside K O n N x o r) p n (inl C) in
+                  let a = run-same (suc N) (spliced K n x r) (suc e) e′ (suc p) (p + n) Q T (let b = T .order in omega arith) l in
+                  let b : p ≡ e = let c = a .0 in omega arith in
+                  not-below K O _ _ (O .one-way _ _ (rw (sym (R .level e (R .order) (omega arith))) at down)) (rw b at (C .rises))
+              | inr (q, u) ↦ omega arith
             ]
           ]
 
@@ -289,8 +293,8 @@ module _ (K : Kind) (O : Lawful K) (n N : ℕ) (some : 0 < n) (x : Trace K) (A :
           let a = R .order in
           let b = far in
           spliced-upto K n x e′ d (omega arith) ∙ elim (cases-lt r d) [
-            inl g ↦ kept-days K O n N x A o r (M .clear) (s - 1) none-before d g (omega arith) ∙ sym (spliced-past K n x r d g)
-          | inr g ↦ sym (spliced-upto K n x r d g)
+            | inl g ↦ kept-days K O n N x A o r (M .clear) (s - 1) none-before d g (omega arith) ∙ sym (spliced-past K n x r d g)
+            | inr g ↦ sym (spliced-upto K n x r d g)
           ]
 
       y-on : (d : ℕ) → s ≤ d → d ≤ e → y d ≡ t
@@ -305,17 +309,17 @@ module _ (K : Kind) (O : Lawful K) (n N : ℕ) (some : 0 < n) (x : Trace K) (A :
       y-after : (d : ℕ) → e < d → y d ≡ z d
       unfolding z y
       y-after d h = elim (cases-lt e′ d) [
-          inl g ↦ let b = far in let a = R .order in spliced-past K n x e′ d g ∙ sym (spliced-past K n x r d (omega arith))
+        | inl g ↦ let b = far in let a = R .order in spliced-past K n x e′ d g ∙ sym (spliced-past K n x r d (omega arith))
         | inr g ↦ let a = R .order in spliced-upto K n x e′ d g ∙ (stays g ∙ sym (spliced-past K n x r d (omega arith)))
       ]
         where
           stays : d ≤ e′ → L K n x d ≡ x d
           stays g = elim (kept-or-bump K O n x A d) [
-              inl q ↦ q
+            | inl q ↦ q
             | inr (p, a, b, B) ↦ absurd (elim (M .clear p B) [
-                inl c ↦ let f = R .order in omega arith
+              | inl c ↦ let f = R .order in omega arith
               | inr c ↦ none-between p c (omega arith) (λ q. omega arith) B
-              ])
+            ])
           ]
 
       made : Run (suc N) y s′ e′
@@ -333,26 +337,26 @@ module _ (K : Kind) (O : Lawful K) (n N : ℕ) (some : 0 < n) (x : Trace K) (A :
           let b = near in
           let c = far in
           let k = knows-again (suc N) v z y s′ e′ made
-              (begun K O (suc N) z y s e s′ e′ t R (omega arith) last-day up down is y-before y-on y-after left right)
-              (ended K O (suc N) z y s e s′ e′ t R (omega arith) last-day up down is y-before y-on y-after left right)
-              (λ d h. y-before d (omega arith)) (λ d h. y-after d (omega arith)) (M .knows) in
+          (begun K O (suc N) z y s e s′ e′ t R (omega arith) last-day up down is y-before y-on y-after left right)
+          (ended K O (suc N) z y s e s′ e′ t R (omega arith) last-day up down is y-before y-on y-after left right)
+          (λ d h. y-before d (omega arith)) (λ d h. y-after d (omega arith)) (M .knows) in
           rw (all-t s′ (omega arith) a) at k
 
       clear-y : (p : ℕ) → Bump K x p n → (p + n ≤ e′) ⊎ (e′ ≤ p)
       clear-y = elim right [
-          inl (q, Q) ↦ let a = Q .order in let b = R .order in clear-end K O n N x A o r (M .clear) (suc e) e′ Q (omega arith)
+        | inl (q, Q) ↦ let a = Q .order in let b = R .order in clear-end K O n N x A o r (M .clear) (suc e) e′ Q (omega arith)
         | inr (q, u) ↦ let b = R .order in clear-end K O n N x A o r (M .clear) s e′ (rw u R) (omega arith)
       ]
 
       -- the marks that were kept lie no later than the new run
       not-later : (j : ℕ) → j < kept → v .mark j ≤ s′
       not-later j h = elim (cases-lt s′ (v .mark j)) [
-          inr l ↦ l
+        | inr l ↦ l
         | inl l ↦ absurd (
             let a = M .early .within j (omega arith) h (omega arith) in
             elim left [
-              inl (q, Q) ↦ M .early .begins j (omega arith) h (omega arith) (Q .level (v .mark j - 1) (omega arith) (omega arith) ∙ sym (Q .level (v .mark j) (omega arith) (omega arith)))
-            | inr (q, u) ↦ omega arith
+              | inl (q, Q) ↦ M .early .begins j (omega arith) h (omega arith) (Q .level (v .mark j - 1) (omega arith) (omega arith) ∙ sym (Q .level (v .mark j) (omega arith) (omega arith)))
+              | inr (q, u) ↦ omega arith
             ])
       ]
 
@@ -370,13 +374,13 @@ module _ (K : Kind) (O : Lawful K) (n N : ℕ) (some : 0 < n) (x : Trace K) (A :
           let b = near in
           let c = R .order in
           elim (cases-lt (p + w) s′) [
-            inl g ↦
-              let V = turn-before K O (suc N) z y s e s′ e′ t R (omega arith) last-day up down is y-before y-on y-after left right p w T g in
-              elim (cases-lt p r) [
-                inl l ↦ inr (M .early .turns p w V (omega arith) l)
-              | inr l ↦ absurd (let q = first-turn p w V l (omega arith) in omega arith)
-              ]
-          | inr g ↦ inl (run-same (suc N) y s′ e′ (suc p) (p + w) made Q g h .0)
+            | inl g ↦
+                let V = turn-before K O (suc N) z y s e s′ e′ t R (omega arith) last-day up down is y-before y-on y-after left right p w T g in
+                elim (cases-lt p r) [
+                  | inl l ↦ inr (M .early .turns p w V (omega arith) l)
+                  | inr l ↦ absurd (let q = first-turn p w V l (omega arith) in omega arith)
+                ]
+            | inr g ↦ inl (run-same (suc N) y s′ e′ (suc p) (p + w) made Q g h .0)
           ]
 
       ahead-y : (mark : ℕ → ℕ) → ((j : ℕ) → i < j → mark j ≡ v .mark j) → Marks K y mark (suc i) hi e′ (suc N)
@@ -386,7 +390,7 @@ module _ (K : Kind) (O : Lawful K) (n N : ℕ) (some : 0 < n) (x : Trace K) (A :
           let b = far in
           ahead-on mark like y e′ (omega arith)
           (λ c f g h q. elim (cases-lt e′ (c - 1)) [
-              inl l ↦ h (sym (y-after (c - 1) (omega arith)) ∙ (q ∙ y-after c (omega arith)))
+            | inl l ↦ h (sym (y-after (c - 1) (omega arith)) ∙ (q ∙ y-after c (omega arith)))
             | inr l ↦ made .ends (omega arith) (ap y (let k : suc e′ ≡ c = omega arith in k) ∙ (sym q ∙ ap y (let k : c - 1 ≡ e′ = omega arith in k)))
           ])
           (turn-after K O (suc N) z y s e s′ e′ t R (omega arith) last-day up down is y-before y-on y-after left right)
@@ -417,7 +421,7 @@ module _ (K : Kind) (O : Lawful K) (n N : ℕ) (some : 0 < n) (x : Trace K) (A :
             within = λ j f g l. let k = M .early .within j f g l in omega arith;
             begins = λ j f g. still-begins j g;
             turns = λ p w T f g. elim (early-turn p w T g) [
-                inr j ↦ j
+              | inr j ↦ j
               | inl q ↦ elim m [ inl u ↦ absurd (omega arith) | inr (u, k) ↦ (kept - 1, omega arith, omega arith, k ∙ q) ]
             ];
           })
@@ -433,19 +437,19 @@ module _ (K : Kind) (O : Lawful K) (n N : ℕ) (some : 0 < n) (x : Trace K) (A :
           levelled-with (suc kept) (with-mark (with-run v s′ e′ t) kept s′) refl refl (omega arith)
           (record {
             rising = λ j k f g l. elim (cases-lt k kept) [
-                inl h ↦ rw (put-other (v .mark) kept s′ j (λ q. omega arith), put-other (v .mark) kept s′ k (λ q. omega arith)) (M .early .rising j k f g h)
+              | inl h ↦ rw (put-other (v .mark) kept s′ j (λ q. omega arith), put-other (v .mark) kept s′ k (λ q. omega arith)) (M .early .rising j k f g h)
               | inr h ↦ rw (put-other (v .mark) kept s′ j (λ q. omega arith), put-same (v .mark) kept s′ k (omega arith)) (below j (omega arith))
             ];
             within = λ j f g. elim (cases-lt j kept) [
-                inl h ↦ rw (put-other (v .mark) kept s′ j (λ q. omega arith)) (λ l. let k = M .early .within j f h l in omega arith)
+              | inl h ↦ rw (put-other (v .mark) kept s′ j (λ q. omega arith)) (λ l. let k = M .early .within j f h l in omega arith)
               | inr h ↦ rw (put-same (v .mark) kept s′ j (omega arith)) (λ l. made .order)
             ];
             begins = λ j f g. elim (cases-lt j kept) [
-                inl h ↦ rw (put-other (v .mark) kept s′ j (λ q. omega arith)) (still-begins j h)
+              | inl h ↦ rw (put-other (v .mark) kept s′ j (λ q. omega arith)) (still-begins j h)
               | inr h ↦ rw (put-same (v .mark) kept s′ j (omega arith)) (made .begins)
             ];
             turns = λ p w T f g. elim (early-turn p w T g) [
-                inr (j, k, l, q) ↦ (j, k, omega arith, put-other (v .mark) kept s′ j (λ e. omega arith) ∙ q)
+              | inr (j, k, l, q) ↦ (j, k, omega arith, put-other (v .mark) kept s′ j (λ e. omega arith) ∙ q)
               | inl q ↦ (kept, omega arith, omega arith, put-same (v .mark) kept s′ kept refl ∙ q)
             ];
           })
@@ -456,9 +460,9 @@ module _ (K : Kind) (O : Lawful K) (n N : ℕ) (some : 0 < n) (x : Trace K) (A :
               let a = not-later j h in
               let b = not-later (kept - 1) (omega arith) in
               elim (cases-eq (v .mark (kept - 1)) s′) [
-                inl q ↦ absurd (m (omega arith) q)
-              | inr q ↦ elim (cases-lt j (kept - 1)) [
-                  inl l ↦ let c = M .early .rising j (kept - 1) (omega arith) l (omega arith) in omega arith
-                | inr l ↦ let c : v .mark j ≡ v .mark (kept - 1) = ap (v .mark) (let k : j ≡ kept - 1 = omega arith in k) in omega arith
+                | inl q ↦ absurd (m (omega arith) q)
+                | inr q ↦ elim (cases-lt j (kept - 1)) [
+                  | inl l ↦ let c = M .early .rising j (kept - 1) (omega arith) l (omega arith) in omega arith
+                  | inr l ↦ let c : v .mark j ≡ v .mark (kept - 1) = ap (v .mark) (let k : j ≡ kept - 1 = omega arith in k) in omega arith
                 ]
               ]

@@ -21,27 +21,28 @@ module _ {X : Type 0} (m : ℕ) (x : ℕ → X) where
 
   -- so they are the same run
   pub run-same : (s e s′ e′ : ℕ) → Run m x s e → Run m x s′ e′ → s ≤ e′ → s′ ≤ e → (s ≡ s′) × (e ≡ e′)
-  run-same s e s′ e′ R R′ h l =
-      ( elim (cases-order s s′) [
-          inl q ↦ q
-        | inr (inl q) ↦ absurd (not-within s e s′ e′ R R′ q l)
-        | inr (inr q) ↦ absurd (not-within s′ e′ s e R′ R q h)
-        ],
-        elim (cases-order e e′) [
-          inl q ↦ q
-        | inr (inl q) ↦ absurd (not-beyond s e s′ e′ R R′ q l)
-        | inr (inr q) ↦ absurd (not-beyond s′ e′ s e R′ R q h)
-        ] )
+  run-same s e s′ e′ R R′ h l = (
+    elim (cases-order s s′) [
+      | inl q ↦ q
+      | inr (inl q) ↦ absurd (not-within s e s′ e′ R R′ q l)
+      | inr (inr q) ↦ absurd (not-within s′ e′ s e R′ R q h)
+    ],
+    elim (cases-order e e′) [
+      | inl q ↦ q
+      | inr (inl q) ↦ absurd (not-beyond s e s′ e′ R R′ q l)
+      | inr (inr q) ↦ absurd (not-beyond s′ e′ s e R′ R q h)
+    ],
+  )
 
 module _ (K : Kind) (O : Lawful K) (m : ℕ) (x : Trace K) where
   -- two totals are equal or not
   pub same-or-not : (a b : Of K) → (a ≡ b) ⊎ (a ≡ b → ⊥)
   same-or-not a b = elim (cases-bool (K .below a b)) [
-      inl h ↦ inr (λ e. not-itself K O a b e h)
+    | inl h ↦ inr (λ e. not-itself K O a b e h)
     | inr h ↦ elim (cases-bool (K .below b a)) [
-          inl l ↦ inr (λ e. not-itself K O b a (sym e) l)
-        | inr l ↦ inl (O .tight a b h l)
-      ]
+      | inl l ↦ inr (λ e. not-itself K O b a (sym e) l)
+      | inr l ↦ inl (O .tight a b h l)
+    ]
   ]
 
   -- a run begins on each day that differs from the day before, and ends on each that differs from the day after
@@ -51,10 +52,10 @@ module _ (K : Kind) (O : Lawful K) (m : ℕ) (x : Trace K) where
       grow : (n e : ℕ) → e + n ≡ m → s ≤ e → ((d : ℕ) → s ≤ d → d ≤ e → x d ≡ x s) → (e : ℕ) × Run m x s e
       grow zero e q l f = (e, record { order = l; end = omega arith; level = f; begins = b; ends = λ g. absurd (omega arith) })
       grow (suc n) e q l f = elim (same-or-not (x (suc e)) (x e)) [
-          inl a ↦ grow n (suc e) (omega arith) (omega arith) (λ d g k. elim (cases-lt d (suc e)) [
-              inl j ↦ f d g (omega arith)
-            | inr j ↦ ap x (omega arith) ∙ (a ∙ f e l (omega arith))
-          ])
+        | inl a ↦ grow n (suc e) (omega arith) (omega arith) (λ d g k. elim (cases-lt d (suc e)) [
+          | inl j ↦ f d g (omega arith)
+          | inr j ↦ ap x (omega arith) ∙ (a ∙ f e l (omega arith))
+        ])
         | inr a ↦ (e, record { order = l; end = omega arith; level = f; begins = b; ends = λ g. a })
       ]
 
@@ -63,25 +64,27 @@ module _ (K : Kind) (O : Lawful K) (m : ℕ) (x : Trace K) where
     where
       made : (s : ℕ) → s ≤ e → ((d : ℕ) → s ≤ d → d ≤ e → x d ≡ x e) → (0 < s → x (s - 1) ≡ x s → ⊥) → (s : ℕ) × Run m x s e
       made s l f g = (s, record { order = l; end = h; level = λ d j k. f d j k ∙ sym (f s (omega arith) l); begins = g; ends = b })
+
       grow : (s : ℕ) → s ≤ e → ((d : ℕ) → s ≤ d → d ≤ e → x d ≡ x e) → (s : ℕ) × Run m x s e
       grow zero l f = made zero l f (λ g. absurd (omega arith))
       grow (suc s) l f = elim (same-or-not (x s) (x (suc s))) [
-          inl a ↦ grow s (omega arith) (λ d g k. elim (cases-lt s d) [
-              inl j ↦ f d j k
-            | inr j ↦ ap x (omega arith) ∙ (a ∙ f (suc s) (omega arith) l)
-          ])
+        | inl a ↦ grow s (omega arith) (λ d g k. elim (cases-lt s d) [
+          | inl j ↦ f d j k
+          | inr j ↦ ap x (omega arith) ∙ (a ∙ f (suc s) (omega arith) l)
+        ])
         | inr a ↦ made (suc s) l f (λ g q. a (ap x (omega arith) ∙ q))
       ]
 
 -- what is known once a run is written
 module _ {X : Type 0} (v : View X) (s e : ℕ) (t : X) where
   pub run-written : Shows (with-run v s e t .total) (with-run v s e t .other) s e t × Shows (with-run v s e t .total) (with-run v s e t .other) e s t
-  run-written =
-      ( record {
-          holds = elim (cases-eq s e) [ inl q ↦ put-same _ e t s q | inr q ↦ put-other _ e t s q ∙ put-same _ s t s refl ];
-          joins = elim (cases-eq s e) [ inl q ↦ put-same _ e s s q ∙ q | inr q ↦ put-other _ e s s q ∙ put-same _ s e s refl ];
-        },
-        record { holds = put-same _ e t e refl; joins = put-same _ e s e refl } )
+  run-written = (
+    record {
+      holds = elim (cases-eq s e) [ inl q ↦ put-same _ e t s q | inr q ↦ put-other _ e t s q ∙ put-same _ s t s refl ];
+      joins = elim (cases-eq s e) [ inl q ↦ put-same _ e s s q ∙ q | inr q ↦ put-other _ e s s q ∙ put-same _ s e s refl ];
+    },
+    record { holds = put-same _ e t e refl; joins = put-same _ e s e refl },
+  )
 
   pub still-shown : (d o : ℕ) (u : X) → (d ≡ s → ⊥) → (d ≡ e → ⊥) → Shows (v .total) (v .other) d o u → Shows (with-run v s e t .total) (with-run v s e t .other) d o u
   still-shown d o u h l S =
@@ -93,11 +96,12 @@ module _ {X : Type 0} (v : View X) (s e : ℕ) (t : X) where
 -- one run more, after those that are known
 pub knows-more : {X : Type 0} (m : ℕ) (v : View X) (x : ℕ → X) (s e : ℕ) → Knows m s v x → Run m x s e → Knows m (suc e) (with-run v s e (x s)) x
 knows-more m v x s e k R a b R′ l = elim (cases-lt b s) [
-    inl h ↦
+  | inl h ↦
       let q = R′ .order in
-      let p = R .order in
-      ( still-shown v s e (x s) a b (x a) (λ z. omega arith) (λ z. omega arith) (k a b R′ h .0),
-        still-shown v s e (x s) b a (x a) (λ z. omega arith) (λ z. omega arith) (k a b R′ h .1) )
+      let p = R .order in (
+        still-shown v s e (x s) a b (x a) (λ z. omega arith) (λ z. omega arith) (k a b R′ h .0),
+        still-shown v s e (x s) b a (x a) (λ z. omega arith) (λ z. omega arith) (k a b R′ h .1),
+      )
   | inr h ↦
       let w = run-same m x a b s e R′ R (let q = R′ .order in omega arith) h in
       rw (w .0, w .1) (run-written v s e (x s))
@@ -115,7 +119,7 @@ module _ {X : Type 0} (m : ℕ) (v : View X) (x y : ℕ → X) (s e : ℕ) (R : 
         level = λ d f l. sym (before d (omega arith)) ∙ (Q .level d f l ∙ before a (let q = Q .order in omega arith));
         begins = λ f q. Q .begins f (before (a - 1) (let q = Q .order in omega arith) ∙ (q ∙ sym (before a (let q = Q .order in omega arith))));
         ends = λ f q. elim (cases-lt (suc b) s) [
-            inl g ↦ Q .ends f (before (suc b) g ∙ (q ∙ sym (before b h)))
+          | inl g ↦ Q .ends f (before (suc b) g ∙ (q ∙ sym (before b h)))
           | inr g ↦ xb (omega arith) (ap x (omega arith) ∙ (sym q ∙ ap x (omega arith)))
         ];
       }
@@ -128,7 +132,7 @@ module _ {X : Type 0} (m : ℕ) (v : View X) (x y : ℕ → X) (s e : ℕ) (R : 
         end = Q .end;
         level = λ d f l. sym (after d (omega arith)) ∙ (Q .level d f l ∙ after a h);
         begins = λ f q. elim (cases-lt e (a - 1)) [
-            inl g ↦ Q .begins f (after (a - 1) g ∙ (q ∙ sym (after a h)))
+          | inl g ↦ Q .begins f (after (a - 1) g ∙ (q ∙ sym (after a h)))
           | inr g ↦ xe (let z = Q .end in omega arith) (ap x (omega arith) ∙ (sym q ∙ ap x (omega arith)))
         ];
         ends = λ f q. Q .ends f (after (suc b) (omega arith) ∙ (q ∙ sym (after b (omega arith))));
@@ -139,17 +143,19 @@ module _ {X : Type 0} (m : ℕ) (v : View X) (x y : ℕ → X) (s e : ℕ) (R : 
       let o = Q .order in
       let w = R .order in
       elim (cases-lt b s) [
-        inl h ↦
-          let K = k a b (run-before a b Q h) l in
-          ( still-shown v s e (y s) a b (y a) (λ z. omega arith) (λ z. omega arith) (rw (before a (omega arith)) (K .0)),
-            still-shown v s e (y s) b a (y a) (λ z. omega arith) (λ z. omega arith) (rw (before a (omega arith)) (K .1)) )
-      | inr h ↦ elim (cases-lt e a) [
-          inl g ↦
-            let K = k a b (run-after a b Q g) l in
-            ( still-shown v s e (y s) a b (y a) (λ z. omega arith) (λ z. omega arith) (rw (after a g) (K .0)),
-              still-shown v s e (y s) b a (y a) (λ z. omega arith) (λ z. omega arith) (rw (after a g) (K .1)) )
-        | inr g ↦
-            let z = run-same m y a b s e Q R g h in
-            rw (z .0, z .1) (run-written v s e (y s))
+        | inl h ↦
+            let K = k a b (run-before a b Q h) l in (
+              still-shown v s e (y s) a b (y a) (λ z. omega arith) (λ z. omega arith) (rw (before a (omega arith)) (K .0)),
+              still-shown v s e (y s) b a (y a) (λ z. omega arith) (λ z. omega arith) (rw (before a (omega arith)) (K .1)),
+            )
+        | inr h ↦ elim (cases-lt e a) [
+          | inl g ↦
+              let K = k a b (run-after a b Q g) l in (
+                still-shown v s e (y s) a b (y a) (λ z. omega arith) (λ z. omega arith) (rw (after a g) (K .0)),
+                still-shown v s e (y s) b a (y a) (λ z. omega arith) (λ z. omega arith) (rw (after a g) (K .1)),
+              )
+          | inr g ↦
+              let z = run-same m y a b s e Q R g h in
+              rw (z .0, z .1) (run-written v s e (y s))
         ]
       ]

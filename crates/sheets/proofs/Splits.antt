@@ -105,8 +105,8 @@ module _ (K : Kind) (O : Lawful K) (xs : Record K) (days : ℕ) (size : length x
     split-flat e l h =
         let k = pulses-few K O xs in
         let z = apart-flat K O (length xs) (trace K (smooth K n xs)) (smooth-outside K O n xs)
-            (apart-bumps K O (trace K (smooth K n xs)) (suc (length xs)) (λ p w g B. no-turn e p w (inl B)))
-            (apart-bumps (turned K) (turned-lawful K O) (trace K (smooth K n xs)) (suc (length xs)) (λ p w g B. no-turn e p w (inr B))) in
+        (apart-bumps K O (trace K (smooth K n xs)) (suc (length xs)) (λ p w g B. no-turn e p w (inl B)))
+        (apart-bumps (turned K) (turned-lawful K O) (trace K (smooth K n xs)) (suc (length xs)) (λ p w g B. no-turn e p w (inr B))) in
         let q : in-turn n (stage K xs) ≡ pulses K xs = sym (pulses-upto K O xs n (omega arith) z) in
         (F .count ∙ ap length q, F .put ∙ (ap (λ l. put-rows 0 l base) q ∙ put-rows-laid (pulses K xs) base (omega arith)))
 
@@ -114,11 +114,11 @@ module _ (K : Kind) (O : Lawful K) (xs : Record K) (days : ℕ) (size : length x
     module _ (enter : Barred-day K xs None) (more : n < days) where
       entered : (d : ℕ) → within (K .arity) (K .bound) (trace K xs d) ≡ true
       entered d = elim (cases-lt 0 d) [
-          inr h ↦ rw (let e : d ≡ 0 = omega arith in e, trace-outside K xs .0) (within-nought (K .arity) (K .bound))
+        | inr h ↦ rw (let e : d ≡ 0 = omega arith in e, trace-outside K xs .0) (within-nought (K .arity) (K .bound))
         | inl h ↦ elim (cases-lt (length xs) d) [
-            inl l ↦ rw (trace-outside K xs .1 d l) (within-nought (K .arity) (K .bound))
+          | inl l ↦ rw (trace-outside K xs .1 d l) (within-nought (K .arity) (K .bound))
           | inr l ↦ enter d h l
-          ]
+        ]
       ]
 
       pub ready-up : Ready K false (suc n) days v marks (smooth K n xs) (lowered K (suc n) (smooth K n xs))
@@ -165,9 +165,9 @@ module _ (K : Kind) (O : Lawful K) (xs : Record K) (days : ℕ) (size : length x
             let c = X .count in
             let e : rows ≡ 0 + length (in-turn n (stage K xs)) = omega arith in
             let width : put-rows rows′ (downward K xs (suc n)) s′ ≡ put-rows rows (upward K xs (suc n) ++ downward K xs (suc n)) s =
-                rw (W .count, W .put) (sym (put-rows-append rows (upward K xs (suc n)) (downward K xs (suc n)) s)) in
+            rw (W .count, W .put) (sym (put-rows-append rows (upward K xs (suc n)) (downward K xs (suc n)) s)) in
             let all : put-rows rows (upward K xs (suc n) ++ downward K xs (suc n)) s ≡ put-rows 0 (in-turn n (stage K xs) ++ (upward K xs (suc n) ++ downward K xs (suc n))) base =
-                rw (e, F .put) (sym (put-rows-append 0 (in-turn n (stage K xs)) (upward K xs (suc n) ++ downward K xs (suc n)) base)) in
+            rw (e, F .put) (sym (put-rows-append 0 (in-turn n (stage K xs)) (upward K xs (suc n) ++ downward K xs (suc n)) base)) in
             record {
               knows = X .knows;
               marked = marks-turned (turned K) _ _ _ _ _ _ (X .marked);

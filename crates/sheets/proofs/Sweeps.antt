@@ -61,7 +61,7 @@ module _ (K : Kind) (O : Lawful K) (down : Bool) (n days : ℕ) (v : View (Of K)
 
   start : spliced J n (trace K b) 0 ≡ trace K b
   start = fun-ext (λ d. elim (cases-lt 0 d) [
-      inl h ↦ spliced-past J n (trace K b) 0 d h
+    | inl h ↦ spliced-past J n (trace K b) 0 d h
     | inr h ↦
         let e : d ≡ 0 = omega arith in
         spliced-upto J n (trace K b) 0 d h ∙ rw e (L-outside J P n days (trace K b) out .0 ∙ sym (out .0))
@@ -98,16 +98,16 @@ module _ (K : Kind) (O : Lawful K) (down : Bool) (n days : ℕ) (v : View (Of K)
 
     unlisted : (c : ℕ) → (Bump J (trace K b) c n → ⊥) → change K b a (suc c) ≡ []
     unlisted c none = elim (change-is K O (aimed K down .below) n b a (stage-pass K O down n b a (R .stage)) c) [
-        inl (B, q) ↦ absurd (none B)
+      | inl (B, q) ↦ absurd (none B)
       | inr (f, q) ↦ q
     ]
 
     pub done-list : in-turn r (change K b a) ≡ changes K b a
     unfolding changes
     done-list = elim (cases-lt (length b) r) [
-        inl h ↦ in-turn-none (change K b a) (length b) r (omega arith) (λ c f g. unlisted c (λ B.
-            let w = bump-within K O (aimed K down .below) n b a (stage-pass K O down n b a (R .stage)) c B in
-            let s = R .stage .some in
-            omega arith))
+      | inl h ↦ in-turn-none (change K b a) (length b) r (omega arith) (λ c f g. unlisted c (λ B.
+          let w = bump-within K O (aimed K down .below) n b a (stage-pass K O down n b a (R .stage)) c B in
+          let s = R .stage .some in
+          omega arith))
       | inr h ↦ sym (in-turn-none (change K b a) r (length b) h (λ c f g. unlisted c (E .2 c f)))
     ]

@@ -24,13 +24,13 @@ put-other f k v d h = cond-false _ _ _ (ne-eqb d k h)
 module _ {X Y : Type 0} (f : X → Y) (xs : List X) (k : ℕ) (v : X) (z : Y) (h : k < length xs) where
   written : (λ d. getD (map f (set xs k v)) d z) ≡ put (λ d. getD (map f xs) d z) k (f v)
   written = fun-ext (λ d. elim (cases-eq d k) [
-      inl e ↦ rw (e, map-set f xs k v) (getD-set-same (map f xs) k (f v) z (simp length-map h)) ∙ sym (put-same (λ d. getD (map f xs) d z) k (f v) d e)
+    | inl e ↦ rw (e, map-set f xs k v) (getD-set-same (map f xs) k (f v) z (simp length-map h)) ∙ sym (put-same (λ d. getD (map f xs) d z) k (f v) d e)
     | inr n ↦ rw (map-set f xs k v) (getD-set-other (map f xs) k d (f v) z n) ∙ sym (put-other (λ d. getD (map f xs) d z) k (f v) d n)
   ])
 
   kept : (x : X) → f v ≡ f (getD xs k x) → _≡_ {A = ℕ → Y} (λ d. getD (map f (set xs k v)) d z) (λ d. getD (map f xs) d z)
   kept x e = written ∙ fun-ext (λ d. elim (cases-eq d k) [
-      inl q ↦ put-same _ k (f v) d q ∙ (e ∙ (sym (getD-map f xs k x z h) ∙ ap (λ j. getD (map f xs) j z) (sym q)))
+    | inl q ↦ put-same _ k (f v) d q ∙ (e ∙ (sym (getD-map f xs k x z h) ∙ ap (λ j. getD (map f xs) j z) (sym q)))
     | inr n ↦ put-other _ k (f v) d n
   ])
 
@@ -55,7 +55,7 @@ module _ {V : Type 0} (K : Kind) (columns : V → Of K) (work : List (WorkEntry 
       λ i. record {
         total = written (λ e. columns (e .total)) work k v (nought (K .arity)) h i;
         other = written (λ e. e .other) work k v 0 h i;
-        mark = kept (λ e. e .mark) work k v 0 h x refl i
+        mark = kept (λ e. e .mark) work k v 0 h x refl i;
       }
 
   pub mark-written : (first : ℕ) → x ≡ getD work k x →
@@ -66,5 +66,5 @@ module _ {V : Type 0} (K : Kind) (columns : V → Of K) (work : List (WorkEntry 
       λ i. record {
         total = kept (λ e. columns (e .total)) work k v (nought (K .arity)) h x (ap (λ (e : WorkEntry V). columns (e .total)) is) i;
         other = kept (λ e. e .other) work k v 0 h x (ap (λ (e : WorkEntry V). e .other) is) i;
-        mark = written (λ e. e .mark) work k v 0 h i
+        mark = written (λ e. e .mark) work k v 0 h i;
       }

@@ -34,7 +34,7 @@ stage-pass K O down n b a S = record { lawful = aimed-lawful K O down; some = S 
 -- every total in mid-pass may be entered
 pub entered-midway : (K : Kind) → Lawful K → (down : Bool) (n : ℕ) (b a : Record K) → Stage K down n b a → (r d : ℕ) → within (K .arity) (K .bound) (spliced (aimed K down) n (trace K b) r d) ≡ true
 entered-midway K O down n b a S r d = elim (cases-lt r d) [
-    inl h ↦ rw (spliced-past (aimed K down) n (trace K b) r d h) (S .entered d)
+  | inl h ↦ rw (spliced-past (aimed K down) n (trace K b) r d h) (S .entered d)
   | inr h ↦ rw (spliced-upto (aimed K down) n (trace K b) r d h) (L-among (aimed K down) (aimed-lawful K O down) (λ v. within (K .arity) (K .bound) v ≡ true) n (trace K b) (S .entered) d)
 ]
 
@@ -92,7 +92,7 @@ module _ (K : Kind) (O : Lawful K) (down : Bool) (n days : ℕ) (v : View (Of K)
   -- no pulse is listed for days on which no bump begins
   unlisted : (c : ℕ) → (Bump J (trace K b) c n → ⊥) → change K b a (suc c) ≡ []
   unlisted c none = elim (change-is K O (aimed K down .below) n b a (stage-pass K O down n b a (V .stage)) c) [
-      inl (B, q) ↦ absurd (none B)
+    | inl (B, q) ↦ absurd (none B)
     | inr (f, q) ↦ q
   ]
 
@@ -169,22 +169,22 @@ module _ (K : Kind) (O : Lawful K) (down : Bool) (n days : ℕ) (v : View (Of K)
 
     lefts : ((z (s - 1) ≡ t) × Run (suc days) z s′ (s - 1)) ⊎ ((z (s - 1) ≡ t → ⊥) × (s′ ≡ s))
     lefts = elim (same-or-not J P 0 (λ _. t) (z (s - 1)) t) [
-        inl q ↦ inl (q, rw (E .left .0 (beside .0 ∙ q)) (beside .1))
+      | inl q ↦ inl (q, rw (E .left .0 (beside .0 ∙ q)) (beside .1))
       | inr q ↦ inr (q, E .left .1 (λ p. q (sym (beside .0) ∙ p)))
     ]
 
     rights : ((z (suc e) ≡ t) × Run (suc days) z (suc e) e′) ⊎ ((z (suc e) ≡ t → ⊥) × (e′ ≡ e))
     rights = elim (same-or-not J P 0 (λ _. t) (z (suc e)) t) [
-        inl q ↦ inl (q, rw (E .right .0 (behind (F .0) .0 ∙ q)) (behind (F .0) .1))
+      | inl q ↦ inl (q, rw (E .right .0 (behind (F .0) .0 ∙ q)) (behind (F .0) .1))
       | inr q ↦ inr (q, E .right .1 (λ p. q (sym (behind (F .0) .0) ∙ p)))
     ]
 
     pub visit-levelled : Midway (aimed K down) n (suc days) (trace K b) w (suc i) hi kept′ e′
     visit-levelled = elim G [
-        inl (p, q, m) ↦ rw (p, q, E .written)
-            (levelled-same J P n days (V .stage .some) (trace K b) (V .stage .apart) out v i hi kept r (V .mid) s e (V .here) (V .marked) (V .past) (found .1) (F .3) up falls s′ e′ t t-is lefts rights (rw (E .written) at m))
+      | inl (p, q, m) ↦ rw (p, q, E .written)
+          (levelled-same J P n days (V .stage .some) (trace K b) (V .stage .apart) out v i hi kept r (V .mid) s e (V .here) (V .marked) (V .past) (found .1) (F .3) up falls s′ e′ t t-is lefts rights (rw (E .written) at m))
       | inr (p, q, pos, m) ↦ rw (p, q, E .written)
-            (levelled-marked J P n days (V .stage .some) (trace K b) (V .stage .apart) out v i hi kept r (V .mid) s e (V .here) (V .marked) (V .past) (found .1) (F .3) up falls s′ e′ t t-is lefts rights pos (rw (E .written) at m))
+          (levelled-marked J P n days (V .stage .some) (trace K b) (V .stage .apart) out v i hi kept r (V .mid) s e (V .here) (V .marked) (V .past) (found .1) (F .3) up falls s′ e′ t t-is lefts rights pos (rw (E .written) at m))
     ]
 
     reaches : e ≤ e′
@@ -214,10 +214,10 @@ module _ (K : Kind) (O : Lawful K) (down : Bool) (n days : ℕ) (v : View (Of K)
         let o = found .1 .order in
         let i1 : suc (s - 1) ≡ s = omega arith in
         let here : change K b a s ≡ bump-pulse K down v n s (v .other s) ∷ [] = elim (change-is K O (aimed K down .below) n b a (stage-pass K O down n b a (V .stage)) (s - 1)) [
-            inl (B, q) ↦ ap (change K b a) (sym i1) ∙ (q ∙ ap (λ p. p ∷ []) the-pulse)
+          | inl (B, q) ↦ ap (change K b a) (sym i1) ∙ (q ∙ ap (λ p. p ∷ []) the-pulse)
           | inr (h, q) ↦ absurd (h there)
         ] in
         in-turn-none (change K b a) s e′ (let q = reaches in omega arith) (λ c h l. unlisted c (none-after J P n days (V .stage .some) (trace K b) (V .stage .apart) out v i hi kept r (V .mid) s e (V .here) (V .marked) (V .past) (found .1) (F .3) up falls s′ e′ t t-is lefts rights c h l)) ∙
         (in-turn-one (change K b a) s f ∙
         (rw here (ap (λ l. l ++ bump-pulse K down v n s (v .other s) ∷ [])
-          (in-turn-none (change K b a) r (s - 1) (omega arith) (λ c h l. unlisted c (none-before J P n days (V .stage .some) (trace K b) (V .stage .apart) out v i hi kept r (V .mid) s e (V .here) (V .marked) (V .past) (found .1) (F .3) up falls s′ e′ t t-is lefts rights c h l))))))
+        (in-turn-none (change K b a) r (s - 1) (omega arith) (λ c h l. unlisted c (none-before J P n days (V .stage .some) (trace K b) (V .stage .apart) out v i hi kept r (V .mid) s e (V .here) (V .marked) (V .past) (found .1) (F .3) up falls s′ e′ t t-is lefts rights c h l))))))

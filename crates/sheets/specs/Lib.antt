@@ -1,4 +1,12 @@
 pub mod Takes
+pub mod Calls
+pub mod Marks
+pub mod History
+pub mod Rows
+pub mod Standing
+pub mod Questions
+pub mod Promise
+pub mod Steps
 pub mod Work
 pub mod Runs
 pub mod Passes

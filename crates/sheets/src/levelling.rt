@@ -130,7 +130,13 @@ fn pulse<K: Total>(work: &[WorkEntry<K>], run: Run, pass: Pass) -> Row<K>
 }
 
 // An end of a levelled run: it moves to the other end of the run beside it if that holds the same.
-fn joined<K: Total>(work: &[WorkEntry<K>], beside: K, level: K, neighbour: usize, end: usize) -> usize
+fn joined<K: Total>(
+    work: &[WorkEntry<K>],
+    beside: K,
+    level: K,
+    neighbour: usize,
+    end: usize,
+) -> usize
     requires { ⌜ neighbour < length (now work) ⌝ }
     ensures { λ r. ⌜ Joins (view kind columns (now (work .entry))) (columns beside) (columns level) neighbour end r ⌝ }
 {
@@ -177,7 +183,14 @@ fn marked<K: Total>(work: &mut [WorkEntry<K>], kept: usize, first: usize) -> usi
 
 // Levels the runs of the pass's width and direction, from the left, and puts their rows. Marks of
 // runs that are neither bump nor pit are dropped.
-pub(crate) fn level_width<K: Total, S: Shelf<K>>(work: &mut [WorkEntry<K>], shelf: &mut S, days: usize, marks: usize, rows: usize, pass: Pass) -> Progress
+pub(crate) fn level_width<K: Total, S: Shelf<K>>(
+    work: &mut [WorkEntry<K>],
+    shelf: &mut S,
+    days: usize,
+    marks: usize,
+    rows: usize,
+    pass: Pass,
+) -> Progress
     requires room { ⌜ days + 2 ≤ length (now work) ⌝ }
     requires few { ⌜ days ≤ 1000 ⌝ }
     requires rows { ⌜ rows ≤ days ⌝ }
@@ -200,7 +213,14 @@ pub(crate) fn level_width<K: Total, S: Shelf<K>>(work: &mut [WorkEntry<K>], shel
 }
 
 // One marked run in a pass.
-fn visit<K: Total, S: Shelf<K>>(work: &mut [WorkEntry<K>], shelf: &mut S, days: usize, first: usize, at: Progress, pass: Pass) -> Progress
+fn visit<K: Total, S: Shelf<K>>(
+    work: &mut [WorkEntry<K>],
+    shelf: &mut S,
+    days: usize,
+    first: usize,
+    at: Progress,
+    pass: Pass,
+) -> Progress
     requires room { ⌜ days + 2 ≤ length (now work) ⌝ }
     requires few { ⌜ days ≤ 1000 ⌝ }
     requires rows { ⌜ at .rows < 65536 ⌝ }

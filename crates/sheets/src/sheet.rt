@@ -1,7 +1,7 @@
 ghost use mathlib.Core.List.{map};
 ghost use mathlib.Core.Path.{_≡_};
 ghost use lib.ListN.{length};
-ghost use Rattle.sheets.specs.Takes.{Barred-day, Refusal-of, Take, opened, state-of};
+ghost use Rattle.sheets.specs.Takes.{Barred-day, Refusal-of, Take, state-of};
 use crate::splitting::split;
 use crate::work::WorkEntry;
 use kinds::Total;
@@ -21,28 +21,20 @@ pub enum Stop {
 // A sheet over a shelf: the pulses of one record, pulse i in slot i - 1.
 #[derive(Drop)]
 pub struct Sheet<K, S> {
-    shelf: S,
-    days: usize,
-    pulses: usize,
-    kind: PhantomData<K>,
+    pub(crate) shelf: S,
+    pub(crate) days: usize,
+    pub(crate) pulses: usize,
+    pub(crate) kind: PhantomData<K>,
 }
 
 impl<K: Total, S: Shelf<K>> Sheet<K, S> {
-    // A sheet of the empty record, with no pulses. The slots are left alone.
-    pub fn new(shelf: S) -> Sheet<K, S>
-        ensures { λ r. ⌜ state-of slots outside r ≡ opened (slots shelf) (outside shelf) ⌝ }
-    {
-        Sheet {
-            shelf,
-            days: 0,
-            pulses: 0,
-            kind: PhantomData,
-        }
-    }
-
     // Splits a record into its pulses and puts their rows, each marked in. What the sheet had is
     // replaced. Answers the number of pulses.
-    pub fn take(&mut self, totals: &[K], work: &mut [WorkEntry<K>]) -> Result<usize, Stop>
+    pub(crate) fn take_record(
+        &mut self,
+        totals: &[K],
+        work: &mut [WorkEntry<K>],
+    ) -> Result<usize, Stop>
         ensures { λ r. ⌜ Take kind (map columns (now (totals .entry))) (length (now (work .entry))) (state-of slots outside (now (self .entry))) (state-of slots outside (now (self .exit))) (now (self .entry)) (now (self .exit)) (now (work .entry)) (now (work .exit)) r ⌝ }
     {
         if let Some(refusal) = refused_take(totals, work.len(), self.shelf.capacity()) {
@@ -52,20 +44,6 @@ impl<K: Total, S: Shelf<K>> Sheet<K, S> {
         self.days = day_count(totals);
         self.pulses = pulses;
         Ok(pulses)
-    }
-
-    // The number of days of the record held.
-    pub fn days(&self) -> usize
-        ensures { λ r. ⌜ r ≡ state-of slots outside (now (self .entry)) .days ⌝ }
-    {
-        self.days
-    }
-
-    // The number of its pulses.
-    pub fn pulses(&self) -> usize
-        ensures { λ r. ⌜ r ≡ state-of slots outside (now (self .entry)) .count ⌝ }
-    {
-        self.pulses
     }
 }
 

@@ -13,7 +13,11 @@ use shelves::Shelf;
 
 // Levels bumps, then pits, width by width until nothing is left to level, and answers the number of
 // rows.
-pub(crate) fn split<K: Total, S: Shelf<K>>(totals: &[K], work: &mut [WorkEntry<K>], shelf: &mut S) -> usize
+pub(crate) fn split<K: Total, S: Shelf<K>>(
+    totals: &[K],
+    work: &mut [WorkEntry<K>],
+    shelf: &mut S,
+) -> usize
     requires { ⌜ Accepted kind (map columns (now totals)) (length (now work)) (length (slots (now shelf))) ⌝ }
     ensures count { λ r. ⌜ r ≡ length (pulses kind (map columns (now (totals .entry)))) ⌝ }
     ensures rows { λ _. ⌜ slots (now (shelf .exit)) ≡ laid (pulses kind (map columns (now (totals .entry)))) (slots (now (shelf .entry))) ⌝ }
@@ -28,7 +32,14 @@ pub(crate) fn split<K: Total, S: Shelf<K>>(totals: &[K], work: &mut [WorkEntry<K
         }
         let width = done + 1;
         let up = level_width(work, shelf, days, marks, rows, Pass { width, down: false });
-        let down = level_width(work, shelf, days, up.kept, up.rows, Pass { width, down: true });
+        let down = level_width(
+            work,
+            shelf,
+            days,
+            up.kept,
+            up.rows,
+            Pass { width, down: true },
+        );
         marks = down.kept;
         rows = down.rows;
     }

@@ -31,6 +31,11 @@ abbrev pub number : Mark → ℕ
 number In = 0
 number Out = 1
 
+-- whether a mark is out
+abbrev pub is-out : Mark → Bool
+is-out In = false
+is-out Out = true
+
 -- the mark of a number, if it is one's
 abbrev pub mark-of : ℕ → Option Mark
 mark-of n = cond (eqb n 0) (Some In) (cond (eqb n 1) (Some Out) None)

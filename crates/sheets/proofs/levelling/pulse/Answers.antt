@@ -15,7 +15,7 @@ unwrap-amount-requires g c κs =
     amount-given (T .kind) (g .K·Total·met .lawful) (T .columns) _ _ (c .difference .result)
     (rw (c .total-at .ensures) (c .pre .4))
     (rw (c .nearer-level .ensures, c .total-at-left .ensures, c .total-at-right .ensures)
-      (higher-both (aimed (T .kind) (c .args .pass .down)) (aimed-lawful _ (g .K·Total·met .lawful) (c .args .pass .down)) _ _ (λ a. within (T .kind .arity) (T .kind .bound) a ≡ true) (c .pre .5) (c .pre .6)))
+    (higher-both (aimed (T .kind) (c .args .pass .down)) (aimed-lawful _ (g .K·Total·met .lawful) (c .args .pass .down)) _ _ (λ a. within (T .kind .arity) (T .kind .bound) a ≡ true) (c .pre .5) (c .pre .6)))
     (c .difference .ensures)
 
 pub returns : need.returns

@@ -29,9 +29,16 @@ pulse-row-requires g c κs =
     let f = F .0 in
     let w = F .3 in
     let o = visit-order _ O _ _ _ _ _ _ _ _ _ _ _ V in
-    let q = c .other-at .ensures in
-    ( omega arith, omega arith, omega arith, omega arith, entered-here _ O _ _ _ _ _ _ _ _ _ _ _ V, entered-left _ O _ _ _ _ _ _ _ _ _ _ _ V,
-      rw (c .other-at .ensures) (entered-right _ O _ _ _ _ _ _ _ _ _ _ _ V f), visit-starts _ O _ _ _ _ _ _ _ _ _ _ _ V )
+    let q = c .other-at .ensures in (
+      omega arith,
+      omega arith,
+      omega arith,
+      omega arith,
+      entered-here _ O _ _ _ _ _ _ _ _ _ _ _ V,
+      entered-left _ O _ _ _ _ _ _ _ _ _ _ _ V,
+      rw (c .other-at .ensures) (entered-right _ O _ _ _ _ _ _ _ _ _ _ _ V f),
+      visit-starts _ O _ _ _ _ _ _ _ _ _ _ _ V,
+    )
 
 pub level-new-requires : need.level-new-requires
 level-new-requires g c κs =
@@ -70,7 +77,7 @@ returns-in-Levelled g c =
           more = levelled-one _ O _ _ _ _ _ _ _ _ _ _ _ V F _ _ _ _ _ E (c .marked .ensures);
           put = c .put .ensures .slots ∙ ap (λ e. set (g .S·Shelf .slots (c .args .shelf .now)) (c .args .at .rows) e) (rw (c .other-at .ensures) at (c .pulse-row .ensures));
           count = refl;
-        }
+        },
       );
       rows = omega arith;
       outside = c .put .ensures .outside;
@@ -89,7 +96,7 @@ returns-in-Kept g c =
           more = rw (c .other-at .ensures, append-nil) (kept-none _ O _ _ _ _ _ _ _ _ _ _ _ V F);
           put = refl;
           count = omega arith;
-        }
+        },
       );
       rows = omega arith;
       outside = refl;
@@ -107,7 +114,7 @@ returns-in-Dropped g c =
           more = rw (c .other-at .ensures, append-nil) (dropped-none _ O _ _ _ _ _ _ _ _ _ _ _ V F);
           put = refl;
           count = omega arith;
-        }
+        },
       );
       rows = omega arith;
       outside = refl;

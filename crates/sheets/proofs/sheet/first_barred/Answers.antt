@@ -25,12 +25,12 @@ returns-then-not-may-enter g c =
 
 pub loop-total-again : need.loop-total-again
 loop-total-again g c =
-    let at = trace-at (g .K·Total .kind) (g .K·Total .columns) (c .args .totals .now) (c .loop-total .total-index) (c .total-item .result) (omega arith) (c .total-item .is) in
-    ( omega arith,
+    let at = trace-at (g .K·Total .kind) (g .K·Total .columns) (c .args .totals .now) (c .loop-total .total-index) (c .total-item .result) (omega arith) (c .total-item .is) in (
+      omega arith,
       λ d h l. elim (cases-lt d (c .loop-total .day + 1)) [
-        inl m ↦ c .loop-total .inv .1 d h (omega arith)
-      | inr m ↦ rw (let e : d ≡ suc (c .loop-total .total-index) = omega arith in e, at) (sym (c .if-not-may-enter .ensures tt))
-      ]
+        | inl m ↦ c .loop-total .inv .1 d h (omega arith)
+        | inr m ↦ rw (let e : d ≡ suc (c .loop-total .total-index) = omega arith in e, at) (sym (c .if-not-may-enter .ensures tt))
+      ],
     )
 
 pub returns : need.returns

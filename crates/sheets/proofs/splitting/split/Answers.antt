@@ -65,9 +65,10 @@ loop-done-again g c =
     let O = g .K·Total·met .lawful in
     let e : c .loop-done .done + 1 ≡ suc (c .loop-done .done) = omega arith in
     let W = c .level-width-up .ensures .stands b m (rw e (ready-up _ O _ _ q _ _ _ _ _ _ (c .loop-done .inv .0) (accepted-enter _ _ _ _ (c .pre)) (c .loop-done-test .taken))) in
-    let X = c .level-width-down .ensures .stands m (smooth K (suc (c .loop-done .done)) xs) (rw e (ready-down _ O _ _ q _ _ _ _ _ _ (c .loop-done .inv .0) (accepted-enter _ _ _ _ (c .pre)) (c .loop-done-test .taken) _ _ _ _ W)) in
-    ( rw e (so-far-more _ O _ _ q _ _ _ _ _ _ (c .loop-done .inv .0) (accepted-enter _ _ _ _ (c .pre)) (c .loop-done-test .taken) _ _ _ _ W _ _ _ _ X),
-      c .level-width-down .ensures .outside ∙ (c .level-width-up .ensures .outside ∙ c .loop-done .inv .1) )
+    let X = c .level-width-down .ensures .stands m (smooth K (suc (c .loop-done .done)) xs) (rw e (ready-down _ O _ _ q _ _ _ _ _ _ (c .loop-done .inv .0) (accepted-enter _ _ _ _ (c .pre)) (c .loop-done-test .taken) _ _ _ _ W)) in (
+      rw e (so-far-more _ O _ _ q _ _ _ _ _ _ (c .loop-done .inv .0) (accepted-enter _ _ _ _ (c .pre)) (c .loop-done-test .taken) _ _ _ _ W _ _ _ _ X),
+      c .level-width-down .ensures .outside ∙ (c .level-width-up .ensures .outside ∙ c .loop-done .inv .1),
+    )
 
 pub returns : need.returns
 returns g c =
