@@ -24,7 +24,7 @@ use Rattle.transform.proofs.Sums.{standing-none, standing-append}
 use Rattle.sheets.specs.declared.sheet.Stop.{Stop}
 use Rattle.sheets.specs.declared.sheet.Stop.the-variants.{Refused, Unreachable}
 use Rattle.sheets.specs.Standing.{unlisted, pulse-of, stands-in, stand-in}
-use Rattle.sheets.specs.Questions.{Comes-to, Adds, Stands}
+use Rattle.sheets.specs.Inside.{Comes-to, Adds, Stands}
 
 pub unlisted-listed : (a : Arity) (x : Columns a) → unlisted a (listed a x) ≡ x
 unlisted-listed one x = refl

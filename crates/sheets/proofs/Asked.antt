@@ -28,12 +28,13 @@ use Rattle.sheets.specs.declared.sheet.Stop.the-variants.{Refused, Unreachable
 use Rattle.sheets.specs.Takes.{State}
 use Rattle.sheets.specs.History.{Calls, row, Shows}
 use Rattle.sheets.specs.Standing.{stand-in, standing-total, standing-trace, standing-swing}
-use Rattle.sheets.specs.Questions.{Unled, Stands, Comes-out, Steps, Listed, Traced}
-use Rattle.sheets.specs.Rows.{Row-held}
+use Rattle.sheets.specs.Questions.{Unled, Comes-out, Listed, Traced}
+use Rattle.sheets.specs.Inside.{Stands, Steps, Row-held}
 use Rattle.sheets.proofs.Slots.{slot-cases}
 use Rattle.sheets.proofs.History.{shows-full}
 use lib.IntN.{ℤ}
-use Rattle.sheets.proofs.Bounds.{Within, within-plus, within-minus, within-more, within-nought, size-within, summed-within, Fair}
+use Rattle.sheets.proofs.Bounds.{Within, Fair}
+use Rattle.transform.proofs.Ranges.{up-to-plus, up-to-minus, up-to-more, up-to-nought, size-up-to, summed-up-to}
 use Rattle.sheets.proofs.Shown.{shown-fair, shown-days, standing-small, never-lacks}
 
 -- sizes
@@ -103,9 +104,9 @@ swing-all K s = refl
 module _ (K : Kind) (O : Lawful K) (h : Calls K) (s : State) (S : Shows K h s) where
   trace-small : (d : ℕ) → Within K 2000 (trace K (standing-trace K s) d)
   trace-small d = elim (cases-lt (s .days) d) [
-    | inl l ↦ rw (days-past K (s .days) (standing-total K s) d l) (within-nought (K .arity) (K .bound) 2000)
+    | inl l ↦ rw (days-past K (s .days) (standing-total K s) d l) (up-to-nought (K .arity) (K .bound) 2000)
     | inr l ↦ elim (cases-eq d 0) [
-      | inl e ↦ rw (e, days-before K (s .days) (standing-total K s)) (within-nought (K .arity) (K .bound) 2000)
+      | inl e ↦ rw (e, days-before K (s .days) (standing-total K s)) (up-to-nought (K .arity) (K .bound) 2000)
       | inr e ↦
           let z : d ≡ (d - 1) + 1 = omega arith in
           subst (λ i. Within K 2000 (trace K (standing-trace K s) i)) (sym z)
@@ -114,20 +115,20 @@ module _ (K : Kind) (O : Lawful K) (h : Calls K) (s : State) (S : Shows K h s) w
   ]
 
   has-small : (n : ℕ) (x : Of K) → n ≤ 5000000 → Within K n x → K .has x ≡ true
-  has-small n x l w = O .roomy x (within-more (K .arity) (K .bound) n 5000000 x l w)
+  has-small n x l w = O .roomy x (up-to-more (K .arity) (K .bound) n 5000000 x l w)
 
   steps-small : (i : ℕ) → i ≤ s .days → {V : Type 0} (columns : V → Of K) (stop : Stop) →
       Steps K columns (summed K i (step K s)) (trace K (standing-trace K s) i) (trace K (standing-trace K s) (i + 1)) (Err stop) → ⊥
   steps-small i l columns (Refused r) e = e
   steps-small i l columns Unreachable e =
-      let D : Within K 4000 (minus (K .arity) (trace K (standing-trace K s) (i + 1)) (trace K (standing-trace K s) i)) = within-minus (K .arity) (K .bound) 2000 2000 _ _ (trace-small (i + 1)) (trace-small i) in
-      let Z = size-within K 4000 _ D in
-      let W = summed-within K 4000 i (step K s) (λ d. size-within K 4000 _ (within-minus (K .arity) (K .bound) 2000 2000 _ _ (trace-small d) (trace-small (d - 1)))) in
+      let D : Within K 4000 (minus (K .arity) (trace K (standing-trace K s) (i + 1)) (trace K (standing-trace K s) i)) = up-to-minus (K .arity) (K .bound) 2000 2000 _ _ (trace-small (i + 1)) (trace-small i) in
+      let Z = size-up-to K O 4000 _ D in
+      let W = summed-up-to K O 4000 i (step K s) (λ d. size-up-to K O 4000 _ (up-to-minus (K .arity) (K .bound) 2000 2000 _ _ (trace-small d) (trace-small (d - 1)))) in
       let n = shown-days K h s S O in
       elim e [
         | inl f ↦ both-ways _ f (has-small 4000 _ (omega arith) D)
         | inr (inl f) ↦ both-ways _ f (has-small 4000 _ (omega arith) Z)
-        | inr (inr f) ↦ both-ways _ f (has-small (i * 4000 + 4000) _ (omega arith) (within-plus (K .arity) (K .bound) (i * 4000) 4000 _ _ W Z))
+        | inr (inr f) ↦ both-ways _ f (has-small (i * 4000 + 4000) _ (omega arith) (up-to-plus (K .arity) (K .bound) (i * 4000) 4000 _ _ W Z))
       ]
 
 -- a step that has no sum, in a sheet that no list of calls leads to

@@ -14,6 +14,7 @@ use Rattle.transform.specs.Theory.{turned, Bump}
 use Rattle.transform.proofs.Order.{Below, AtMost, turned-lawful, not-below}
 use Rattle.transform.proofs.Windows.{Apart, kept-or-bump, L-levels}
 use Rattle.transform.proofs.Smooths.{Outside}
+use Rattle.transform.proofs.Passes.{Clear}
 use Rattle.sheets.specs.Work.{View, put, with-mark, with-run}
 use Rattle.sheets.specs.Runs.{Run, Knows, Turn, Marks}
 use Rattle.sheets.specs.Passes.{spliced, Midway, Marked}
@@ -316,8 +317,8 @@ module _ (K : Kind) (O : Lawful K) (n N : ℕ) (some : 0 < n) (x : Trace K) (A :
           stays : d ≤ e′ → L K n x d ≡ x d
           stays g = elim (kept-or-bump K O n x A d) [
             | inl q ↦ q
-            | inr (p, a, b, B) ↦ absurd (elim (M .clear p B) [
-              | inl c ↦ let f = R .order in omega arith
+            | inr (p, a, b, B) ↦ absurd (elim (cases-lt p r) [
+              | inl c ↦ let f = R .order in let q = M .clear p B c in omega arith
               | inr c ↦ none-between p c (omega arith) (λ q. omega arith) B
             ])
           ]
@@ -342,7 +343,7 @@ module _ (K : Kind) (O : Lawful K) (n N : ℕ) (some : 0 < n) (x : Trace K) (A :
           (λ d h. y-before d (omega arith)) (λ d h. y-after d (omega arith)) (M .knows) in
           rw (all-t s′ (omega arith) a) at k
 
-      clear-y : (p : ℕ) → Bump K x p n → (p + n ≤ e′) ⊎ (e′ ≤ p)
+      clear-y : Clear K n x e′
       clear-y = elim right [
         | inl (q, Q) ↦ let a = Q .order in let b = R .order in clear-end K O n N x A o r (M .clear) (suc e) e′ Q (omega arith)
         | inr (q, u) ↦ let b = R .order in clear-end K O n N x A o r (M .clear) s e′ (rw u R) (omega arith)

@@ -26,9 +26,10 @@ use Rattle.transform.proofs.Counts.{pulses-few}
 use Rattle.sheets.specs.Takes.{State, Accepted, Barred}
 use Rattle.sheets.specs.History.{Calls, Held, row, Shows}
 use Rattle.sheets.specs.Standing.{pulse-of, stands-in, stand-in, left}
-use Rattle.sheets.specs.Questions.{Lacks}
+use Rattle.sheets.specs.Inside.{Lacks}
 use Rattle.sheets.proofs.Adding.{unlisted-listed}
-use Rattle.sheets.proofs.Bounds.{Within, within-once, within-nought, within-more, standing-within, Fair, pulses-fair}
+use Rattle.sheets.proofs.Bounds.{Within, Fair, pulses-fair}
+use Rattle.transform.proofs.Ranges.{up-to-bound, up-to-nought, up-to-more, standing-up-to}
 use Rattle.sheets.proofs.History.{shows-full}
 
 module _ (K : Kind) (xs : Record K) (entries capacity : ℕ) (a : Accepted K xs entries capacity) where
@@ -50,14 +51,14 @@ pub held-within : (K : Kind) (capacity : ℕ) (h : Calls K) (xs : Record K) → 
 held-within K capacity h xs (inl l) = (
   accepted-days K xs (l .entries) capacity (l .accepted),
   λ d. elim (cases-lt (length xs) d) [
-    | inl g ↦ rw (trace-outside K xs .1 d g) (within-nought (K .arity) (K .bound) 1)
+    | inl g ↦ rw (trace-outside K xs .1 d g) (up-to-nought (K .arity) (K .bound) 1)
     | inr g ↦ elim (cases-eq d 0) [
-      | inl e ↦ rw (e, trace-outside K xs .0) (within-nought (K .arity) (K .bound) 1)
-      | inr e ↦ within-once (K .arity) (K .bound) _ (entered K xs (l .entries) capacity (l .accepted) (length xs) (omega arith) d (omega arith) g)
+      | inl e ↦ rw (e, trace-outside K xs .0) (up-to-nought (K .arity) (K .bound) 1)
+      | inr e ↦ up-to-bound (K .arity) (K .bound) _ (entered K xs (l .entries) capacity (l .accepted) (length xs) (omega arith) d (omega arith) g)
     ]
   ],
 )
-held-within K capacity h xs (inr (e, l)) = subst (λ ys. (length ys ≤ 1000) × ((d : ℕ) → Within K 1 (trace K ys d))) (sym e) (omega arith, λ d. rw (outside d) (within-nought (K .arity) (K .bound) 1))
+held-within K capacity h xs (inr (e, l)) = subst (λ ys. (length ys ≤ 1000) × ((d : ℕ) → Within K 1 (trace K ys d))) (sym e) (omega arith, λ d. rw (outside d) (up-to-nought (K .arity) (K .bound) 1))
   where
     outside : (d : ℕ) → trace K [] d ≡ nought (K .arity)
     outside zero = trace-outside K [] .0
@@ -112,11 +113,11 @@ module _ (K : Kind) (h : Calls K) (s : State) (S : Shows K h s) where
         let k = chosen-length (λ p. not (S .out p)) (take j (pulses K (S .totals))) in
         let t = length-take-le j (pulses K (S .totals)) (omega arith) in
         rw (slots-left j (omega arith))
-        (within-more (K .arity) (K .bound) (length (chosen (λ p. not (S .out p)) (take j (pulses K (S .totals)))) * 2) 2000 _ (omega arith)
-        (standing-within K 2 (chosen (λ p. not (S .out p)) (take j (pulses K (S .totals)))) d
+        (up-to-more (K .arity) (K .bound) (length (chosen (λ p. not (S .out p)) (take j (pulses K (S .totals)))) * 2) 2000 _ (omega arith)
+        (standing-up-to K O 2 (chosen (λ p. not (S .out p)) (take j (pulses K (S .totals)))) d
         (all-chosen _ _ (take j (pulses K (S .totals))) (all-take _ j (pulses K (S .totals)) (all-weaker _ _ (λ p q. q .amount) (pulses K (S .totals)) shown-fair)))))
 
     -- so it never lacks a value
     pub never-lacks : (d : ℕ) → Lacks K (s .slots) (s .count) d → ⊥
     never-lacks d (j, l, inl (g, b)) = shows-full K h s S j g b
-    never-lacks d (j, l, inr e) = both-ways _ e (O .roomy _ (within-more (K .arity) (K .bound) 2000 5000000 _ (omega arith) (standing-small j d l)))
+    never-lacks d (j, l, inr e) = both-ways _ e (O .roomy _ (up-to-more (K .arity) (K .bound) 2000 5000000 _ (omega arith) (standing-small j d l)))

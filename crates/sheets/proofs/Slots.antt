@@ -23,7 +23,8 @@ use Rattle.shelves.specs.declared.row.Mark.the-variants.{In, Out}
 use Rattle.shelves.specs.Slots.{Entry, number, slot-of, is-out}
 use Rattle.sheets.specs.declared.sheet.Stop.the-variants.{Refused, Unreachable}
 use Rattle.sheets.specs.Calls.{Call, marking, marking-one}
-use Rattle.sheets.specs.Marks.{looks, named, outward, remarked, marked, change, marks-changed, Marked, Blank, Slot-marked, Slots-marked}
+use Rattle.sheets.specs.Marks.{looks, named, outward, remarked, marked, change, marks-changed, Marked, Blank}
+use Rattle.sheets.specs.Inside.{Slot-marked, Slots-marked}
 
 pub some-not-none : {A : Type 0} (o : Option A) (a : A) → o ≡ Some a → o ≡ None → ⊥
 some-not-none o a e f = let z : _≡_ {A = ℕ} 0 1 = cc in omega arith

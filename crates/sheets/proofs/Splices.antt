@@ -1,29 +1,29 @@
 -- The trace in mid-pass.
-use mathlib.Core.Bool.{true, false}
 use mathlib.Core.Logic.{inl, inr, _⊎_}
-use mathlib.Core.Path.{_≡_, refl, sym, ap, _∙_, fun-ext}
+use mathlib.Core.Path.{_≡_, refl, sym, ap, _∙_}
 use Prim.Native.Nat.{ℕ, zero, suc, _+_, _-_, _<_, _≤_}
 use native.Mathlib.Omega.{arith}
-use Rattle.std.proofs.shelf.Tests.{cases-lt, cond-true, cond-false, le-leb, lt-leb}
-use Rattle.kinds.specs.Columns.{nought}
+use Rattle.std.proofs.shelf.Tests.{cases-lt}
 use Rattle.kinds.specs.Kinds.{Kind, Of, Lawful}
-use Rattle.transform.specs.Windows.{Trace, L, higher}
+use Rattle.transform.specs.Windows.{Trace, L}
 use Rattle.transform.specs.Theory.{turned, Bump}
-use Rattle.transform.proofs.Order.{Below, AtMost, not-itself, not-below, higher-right}
-use Rattle.transform.proofs.Windows.{Apart, kept-or-bump, kept-before-rise, L-levels}
+use Rattle.transform.proofs.Order.{not-itself}
+use Rattle.transform.proofs.Windows.{Apart}
 use Rattle.transform.proofs.Smooths.{Outside, L-outside}
-use Rattle.transform.proofs.Passes.{bump-same}
+use Rattle.transform.proofs.Passes.{Clear, None, pass, pass-upto, pass-past, pass-on, pass-near, pass-bump, bump-pass}
 use Rattle.sheets.specs.Runs.{Run, Turn}
 use Rattle.sheets.specs.Passes.{spliced}
 use Rattle.sheets.proofs.Runs.{run-same}
 
+pub spliced-pass : (K : Kind) (n : ℕ) (x : Trace K) (r : ℕ) → spliced K n x r ≡ pass K n x r
+unfolding spliced pass
+spliced-pass K n x r = refl
+
 pub spliced-upto : (K : Kind) (n : ℕ) (x : Trace K) (r d : ℕ) → d ≤ r → spliced K n x r d ≡ L K n x d
-unfolding spliced
-spliced-upto K n x r d h = cond-true _ _ _ (le-leb d r h)
+spliced-upto K n x r d h = ap (λ t. t d) (spliced-pass K n x r) ∙ pass-upto K n x r d h
 
 pub spliced-past : (K : Kind) (n : ℕ) (x : Trace K) (r d : ℕ) → r < d → spliced K n x r d ≡ x d
-unfolding spliced
-spliced-past K n x r d h = cond-false _ _ _ (lt-leb d r h)
+spliced-past K n x r d h = ap (λ t. t d) (spliced-pass K n x r) ∙ pass-past K n x r d h
 
 pub spliced-outside : (K : Kind) → Lawful K → (n N : ℕ) (x : Trace K) → Outside K N x → (r : ℕ) → Outside K N (spliced K n x r)
 spliced-outside K O n N x o r =
@@ -59,58 +59,33 @@ pub turn-run : (K : Kind) → Lawful K → Lawful (turned K) → (N : ℕ) (z : 
 turn-run K O P N z o p w (inl B) = bump-run K O N z o p w B
 turn-run K O P N z o p w (inr B) = bump-run (turned K) P N z o p w B
 
-module _ (K : Kind) (O : Lawful K) (n N : ℕ) (x : Trace K) (A : Apart K n x) (o : Outside K N x) (r : ℕ) (clear : (p : ℕ) → Bump K x p n → (p + n ≤ r) ⊎ (r ≤ p)) where
-  from-on : (p d : ℕ) → r ≤ p → p ≤ d → (p ≡ r → L K n x r ≡ x r) → spliced K n x r d ≡ x d
-  from-on p d h l e = elim (cases-lt r d) [
-    | inl g ↦ spliced-past K n x r d g
-    | inr g ↦ spliced-upto K n x r d g ∙ (ap (L K n x) (omega arith) ∙ (e (omega arith) ∙ ap x (omega arith)))
-  ]
-
+module _ (K : Kind) (O : Lawful K) (n N : ℕ) (x : Trace K) (A : Apart K n x) (o : Outside K N x) (r : ℕ) (clear : Clear K n x r) where
   -- a bump of width n that begins after day r is one of the trace in mid-pass, and the other way round
   pub bump-seen : (p : ℕ) → r ≤ p → Bump K x p n → Bump K (spliced K n x r) p n
-  bump-seen p h B = bump-same K x (spliced K n x r) p n (λ d l. from-on p d h l (λ q. kept-before-rise K O n x A r (rw q at (B .rises)))) B
-
-  pub bump-there-same : (p : ℕ) → r ≤ p → Bump K (spliced K n x r) p n → (d : ℕ) → p ≤ d → spliced K n x r d ≡ x d
-  bump-there-same p h B d l = from-on p d h l (λ q. elim (kept-or-bump K O n x A r) [
-    | inl e ↦ e
-    | inr (k, f, g, C) ↦ absurd (elim (clear k C) [
-      | inl a ↦ not-below K O _ _
-          (rw (spliced-upto K n x r p (omega arith), spliced-past K n x r (suc p) (omega arith), q, L-levels K O n x k r C f g, let i : suc r ≡ suc (k + n) = omega arith in i) (higher-right K O (x k) (x (suc (k + n)))))
-          (B .rises)
-      | inr a ↦ omega arith
-    ])
-  ])
+  bump-seen p h B = rw (spliced-pass K n x r) (pass-bump K O n x A r p h B)
 
   pub bump-there : (p : ℕ) → r ≤ p → Bump K (spliced K n x r) p n → Bump K x p n
-  bump-there p h B = bump-same K (spliced K n x r) x p n (λ d l. sym (bump-there-same p h B d l)) B
+  bump-there p h B = bump-pass K O n x A r p clear h (rw (spliced-pass K n x r) at B)
+
+  pub bump-there-same : (p : ℕ) → r ≤ p → Bump K (spliced K n x r) p n → (d : ℕ) → p ≤ d → spliced K n x r d ≡ x d
+  bump-there-same p h B d l = ap (λ t. t d) (spliced-pass K n x r) ∙ pass-near K O n x A r p h (bump-there p h B) d l
 
   -- the end of a run after day r is clear too
-  pub clear-end : (s e : ℕ) → Run (suc N) (spliced K n x r) s e → r ≤ e → (p : ℕ) → Bump K x p n → (p + n ≤ e) ⊎ (e ≤ p)
-  clear-end s e R h p B = elim (clear p B) [
-    | inl a ↦ inl (omega arith)
-    | inr a ↦ elim (cases-lt (p + n) s) [
-      | inl f ↦ inl (let g = R .order in omega arith)
-      | inr f ↦ elim (cases-lt p e) [
-        | inr g ↦ inr g
-        | inl g ↦
-            let Q = bump-run K O N (spliced K n x r) (spliced-outside K O n N x o r) p n (bump-seen p a B) in
-            inl (let w = run-same (suc N) (spliced K n x r) s e (suc p) (p + n) R Q f g .1 in omega arith)
-      ]
+  pub clear-end : (s e : ℕ) → Run (suc N) (spliced K n x r) s e → r ≤ e → Clear K n x e
+  clear-end s e R h p B g = elim (cases-lt p r) [
+    | inl f ↦ let a = clear p B f in omega arith
+    | inr f ↦ elim (cases-lt (p + n) s) [
+      | inl a ↦ let b = R .order in omega arith
+      | inr a ↦
+          let Q = bump-run K O N (spliced K n x r) (spliced-outside K O n N x o r) p n (bump-seen p f B) in
+          let w = run-same (suc N) (spliced K n x r) s e (suc p) (p + n) R Q a g .1 in
+          omega arith
     ]
   ]
 
-  -- the days after r, up to day e, keep their totals if no bump of width n begins on them
-  pub kept-days : (e : ℕ) → ((p : ℕ) → r ≤ p → p < e → Bump K x p n → ⊥) → (d : ℕ) → r < d → d ≤ e → L K n x d ≡ x d
-  kept-days e none d h l = elim (kept-or-bump K O n x A d) [
-    | inl q ↦ q
-    | inr (p, f, g, B) ↦ absurd (elim (clear p B) [ inl a ↦ omega arith | inr a ↦ none p a (omega arith) B ])
-  ]
+  -- if no bump of width n begins after day r and up to day e, the trace stays as it is up to day e
+  pub spliced-same : (e : ℕ) → r ≤ e → None K n x r e → spliced K n x e ≡ spliced K n x r
+  spliced-same e h none = spliced-pass K n x e ∙ (sym (pass-on K O n x A r e h clear none) ∙ sym (spliced-pass K n x r))
 
-  pub spliced-same : (e : ℕ) → r ≤ e → ((p : ℕ) → r ≤ p → p < e → Bump K x p n → ⊥) → spliced K n x e ≡ spliced K n x r
-  spliced-same e h none = fun-ext (λ d. elim (cases-lt r d) [
-    | inl f ↦ elim (cases-lt e d) [
-      | inl g ↦ spliced-past K n x e d g ∙ sym (spliced-past K n x r d f)
-      | inr g ↦ spliced-upto K n x e d g ∙ (kept-days e none d f g ∙ sym (spliced-past K n x r d f))
-    ]
-    | inr f ↦ spliced-upto K n x e d (omega arith) ∙ sym (spliced-upto K n x r d f)
-  ])
+  pub kept-days : (e : ℕ) → None K n x r e → (d : ℕ) → r < d → d ≤ e → L K n x d ≡ x d
+  kept-days e none d h l = sym (spliced-upto K n x e d l) ∙ (ap (λ t. t d) (spliced-same e (omega arith) none) ∙ spliced-past K n x r d h)

@@ -2,7 +2,7 @@
 use mathlib.Core.Bool.{Bool}
 use mathlib.Core.List.{List, [], _∷_, _++_}
 use mathlib.Core.Logic.{inl, inr, _⊎_}
-use mathlib.Core.Path.{_≡_, refl, sym, ap, _∙_, fun-ext}
+use mathlib.Core.Path.{_≡_, refl, sym, ap, _∙_}
 use Prim.Native.Nat.{ℕ, zero, suc, _+_, _-_, _<_, _≤_}
 use native.Mathlib.Omega.{arith}
 use lib.ListN.{length, set}
@@ -14,14 +14,15 @@ use Rattle.shelves.specs.Slots.{Entry}
 use Rattle.transform.specs.Windows.{Record, Trace, trace, L}
 use Rattle.transform.specs.Pulses.{Pulse, in-turn, change, changes}
 use Rattle.transform.specs.Theory.{Bump}
-use Rattle.transform.proofs.Smooths.{Outside, L-outside}
+use Rattle.transform.proofs.Smooths.{Outside}
+use Rattle.transform.proofs.Passes.{clear-start, pass-start}
 use Rattle.transform.proofs.Listing.{change-is, bump-within}
 use Rattle.sheets.specs.Takes.{row-of}
 use Rattle.sheets.specs.Work.{View}
 use Rattle.sheets.specs.Runs.{Knows, Marks}
 use Rattle.sheets.specs.Passes.{aimed, spliced, Midway, Ready, put-rows, Added}
 use Rattle.sheets.proofs.Aims.{aimed-lawful}
-use Rattle.sheets.proofs.Splices.{spliced-upto, spliced-past}
+use Rattle.sheets.proofs.Splices.{spliced-pass}
 use Rattle.sheets.proofs.Passes.{in-turn-none, pass-ends}
 use Rattle.sheets.proofs.Visits.{stage-outside, stage-pass}
 
@@ -60,18 +61,13 @@ module _ (K : Kind) (O : Lawful K) (down : Bool) (n days : ℕ) (v : View (Of K)
   out = stage-outside K down days b (R .size)
 
   start : spliced J n (trace K b) 0 ≡ trace K b
-  start = fun-ext (λ d. elim (cases-lt 0 d) [
-    | inl h ↦ spliced-past J n (trace K b) 0 d h
-    | inr h ↦
-        let e : d ≡ 0 = omega arith in
-        spliced-upto J n (trace K b) 0 d h ∙ rw e (L-outside J P n days (trace K b) out .0 ∙ sym (out .0))
-  ])
+  start = spliced-pass J n (trace K b) 0 ∙ pass-start J P n (trace K b)
 
   pub ready-midway : Midway (aimed K down) n (suc days) (trace K b) v 0 marks 0 0
   ready-midway =
       record {
         reach = omega arith;
-        clear = λ p B. inr (omega arith);
+        clear = clear-start J P n (trace K b);
         knows = rw start (R .knows);
         behind = omega arith;
         early = record {

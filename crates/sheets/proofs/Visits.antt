@@ -165,6 +165,7 @@ module _ (K : Kind) (O : Lawful K) (down : Bool) (n days : ℕ) (v : View (Of K)
     falls = rw (behind (F .0) .0, found .0) at (F .2)
 
     t-is : t ≡ higher J (z (s - 1)) (z (suc e))
+    unfolding higher
     t-is = rw (beside .0, behind (F .0) .0)
 
     lefts : ((z (s - 1) ≡ t) × Run (suc days) z s′ (s - 1)) ⊎ ((z (s - 1) ≡ t → ⊥) × (s′ ≡ s))
@@ -200,6 +201,7 @@ module _ (K : Kind) (O : Lawful K) (down : Bool) (n days : ℕ) (v : View (Of K)
         (run-bump J (suc days) n z s e (found .1) visit-starts (F .3) up falls)
 
     the-pulse : lowering K (aimed K down .below) n (trace K b) (s - 1) ≡ bump-pulse K down v n s (v .other s)
+    unfolding higher
     the-pulse =
         let f = visit-starts in
         let i1 : suc (s - 1) ≡ s = omega arith in

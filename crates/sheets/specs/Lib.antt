@@ -2,7 +2,6 @@ pub mod Takes
 pub mod Calls
 pub mod Marks
 pub mod History
-pub mod Rows
 pub mod Standing
 pub mod Questions
 pub mod Promise
@@ -10,3 +9,4 @@ pub mod Steps
 pub mod Work
 pub mod Runs
 pub mod Passes
+pub mod Inside

@@ -4,7 +4,7 @@ use mathlib.Core.List.{List}
 use mathlib.Core.Path.{_≡_}
 use Prim.Native.Nat.{ℕ, zero, suc, _+_, _<_, _≤_}
 use lib.Dec.{eqb, leb}
-use lib.ListN.{length, getD, set}
+use lib.ListN.{length, getD}
 use Rattle.std.specs.declared.option.Option.{Option}
 use Rattle.std.specs.declared.option.Option.the-variants.{Some, None}
 use Rattle.std.specs.declared.result.Result.{Result}
@@ -68,20 +68,6 @@ pub record Blank {K : Kind} (c : Call K) (n : ℕ) (before after : List (Option 
   pub looked : looks c slot ≡ true
   pub blank : getD before slot None ≡ None
   pub marked-before : Marked c slot before after
-
--- What it answers of slot k alone: 1 where the mark changes, else 0; or the slot is blank, and all is
--- as it was.
-abbrev pub Slot-marked : (K : Kind) → Call K → ℕ → List (Option Entry) → List (Option Entry) → Result ℕ Stop → Type 0
-Slot-marked K c k before after (Ok n) =
-    (getD before k None ≡ None → ⊥) × (n ≡ change c k (getD before k None)) × (after ≡ set before k (marked c k (getD before k None)))
-Slot-marked K c k before after (Err (Refused r)) = ⊥
-Slot-marked K c k before after (Err Unreachable) = (getD before k None ≡ None) × (after ≡ before)
-
--- What it answers of the first n slots: how many marks changed, or it came to a blank slot.
-abbrev pub Slots-marked : (K : Kind) → Call K → ℕ → List (Option Entry) → List (Option Entry) → Result ℕ Stop → Type 0
-Slots-marked K c n before after (Ok changed) = Marked c n before after × (changed ≡ marks-changed c n before)
-Slots-marked K c n before after (Err (Refused r)) = ⊥
-Slots-marked K c n before after (Err Unreachable) = Blank c n before after
 
 -- days, pulses and lent memory besides the slots stay
 pub record Stays (before after : State) : Type 0 where

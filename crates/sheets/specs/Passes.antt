@@ -10,7 +10,7 @@ use Rattle.std.specs.declared.option.Option.{Option}
 use Rattle.kinds.specs.Columns.{within, minus}
 use Rattle.kinds.specs.Kinds.{Kind, Of}
 use Rattle.shelves.specs.Slots.{Entry}
-use Rattle.transform.specs.Windows.{Record, Trace, trace, L, higher}
+use Rattle.transform.specs.Windows.{Record, Trace, trace, L}
 use Rattle.transform.specs.Pulses.{Pulse, in-turn, change, changes}
 use Rattle.transform.specs.Theory.{Bump}
 use Rattle.sheets.specs.declared.levelling.Fate.{Fate}
@@ -49,7 +49,7 @@ spliced K n x r d = cond (leb d r) (L K n x d) (x d)
 -- the days up to r, those from number i on for the days after it.
 pub record Midway (K : Kind) (n m : ℕ) (x : Trace K) (v : View (Of K)) (i hi kept r : ℕ) : Type 0 where
   pub reach : r ≤ m
-  pub clear : (p : ℕ) → Bump K x p n → (p + n ≤ r) ⊎ (r ≤ p)
+  pub clear : (p : ℕ) → Bump K x p n → p < r → p + n ≤ r
   pub knows : Knows m (suc m) v (spliced K n x r)
   pub behind : kept ≤ i
   pub early : Marks K (spliced K n x r) (v .mark) 0 kept 0 r
@@ -103,9 +103,10 @@ Fate-of K days n s e l h g Kept = K .below l h ≡ true → K .below g h ≡ tru
 Fate-of K days n s e l h g Dropped =
     e ≤ days → (K .below l h ≡ true → K .below g h ≡ true → ⊥) × (K .below h l ≡ true → K .below h g ≡ true → ⊥)
 
--- the total that a bump from s to e is levelled to
+-- the total that a bump from s to e is levelled to: the higher of its neighbours
 abbrev pub nearest : (K : Kind) → View (Of K) → ℕ → ℕ → Of K
-nearest K v s e = higher K (v .total (s - 1)) (v .total (e + 1))
+nearest K v s e =
+    cond (K .below (v .total (s - 1)) (v .total (e + 1))) (v .total (e + 1)) (v .total (s - 1))
 
 -- a day is the other end of the run at the neighbour day where that holds the same total, else it is as given
 abbrev pub Joins : {X : Type 0} → View X → X → X → ℕ → ℕ → ℕ → Type 0

@@ -40,6 +40,7 @@ pub(crate) fn build<K: Total>(totals: &[K], work: &mut [WorkEntry<K>]) -> usize
         at = extended(work, at, day, *total);
         day += 1;
     }
+    // the day after the last counts as zero
     at = extended(work, at, day, K::zero());
     set_run(
         work,

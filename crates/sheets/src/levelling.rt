@@ -1,17 +1,16 @@
 // One pass of the run method: the bumps of one width are lowered to their higher neighbour, or the
 // pits of that width raised to their lower one.
-ghost use mathlib.Core.Bool.{true};
+ghost use mathlib.Core.Bool.{true, false, cond};
 ghost use mathlib.Core.Path.{_≡_};
 ghost use Prim.Native.Nat.{ℕ, suc, _+_, _-_, _<_, _≤_};
-ghost use lib.ListN.{length};
+ghost use lib.ListN.{length, set};
 ghost use Rattle.kinds.specs.Columns.{within};
-ghost use Rattle.kinds.specs.Kinds.{Compared};
 ghost use Rattle.shelves.specs.Slots.{shown};
-ghost use Rattle.transform.specs.Windows.{Record, higher, trace};
+ghost use Rattle.transform.specs.Windows.{Record, trace};
 ghost use Rattle.transform.specs.Pulses.{change};
 ghost use Rattle.sheets.specs.Takes.{row-of};
 ghost use Rattle.sheets.specs.Work.{view};
-ghost use Rattle.sheets.specs.Passes.{aimed, Fate-of, nearest, Joins, Relaid, bump-pulse, Marked, Midway, Visiting, Added, Ready, Swept};
+ghost use Rattle.sheets.specs.Passes.{aimed, Fate-of, Joins, Relaid, bump-pulse, Marked, Midway, Visiting, Added, Ready, Swept};
 use crate::work::Run;
 use crate::work::WorkEntry;
 use crate::work::mark_at;
@@ -30,6 +29,19 @@ use std::cmp::Ordering;
 pub(crate) struct Pass {
     pub width: usize,
     pub down: bool,
+}
+
+// The pass that levels bumps, and the one that levels pits.
+pub(crate) fn bumps(width: usize) -> Pass
+    ensures { λ r. ⌜ (r .width ≡ width) × (r .down ≡ false) ⌝ }
+{
+    Pass { width, down: false }
+}
+
+pub(crate) fn pits(width: usize) -> Pass
+    ensures { λ r. ⌜ (r .width ≡ width) × (r .down ≡ true) ⌝ }
+{
+    Pass { width, down: true }
 }
 
 // What a pass does with a marked run.
@@ -52,22 +64,30 @@ pub(crate) struct Progress {
     pub rows: usize,
 }
 
-// The order of two totals, turned in a downward pass.
-fn compared<K: Total>(a: K, b: K, down: bool) -> Ordering
-    ensures { λ r. ⌜ Compared (aimed kind down .below) (columns a) (columns b) r ⌝ }
+// Whether a total lies below another, or in a downward pass above it.
+fn under<K: Total>(a: K, b: K, down: bool) -> bool
+    ensures { λ r. ⌜ r ≡ aimed kind down .below (columns a) (columns b) ⌝ }
 {
-    if down { b.compare(a) } else { a.compare(b) }
+    match if down { b.compare(a) } else { a.compare(b) } {
+        Ordering::Less => true,
+        Ordering::Equal => false,
+        Ordering::Greater => false,
+    }
 }
 
 // The one of two totals that is nearer to a bump above both, or in a downward pass to a pit.
 fn nearer<K: Total>(a: K, b: K, down: bool) -> K
-    ensures { λ r. ⌜ columns r ≡ higher (aimed kind down) (columns a) (columns b) ⌝ }
+    ensures { λ r. ⌜ columns r ≡ cond (aimed kind down .below (columns a) (columns b)) (columns b) (columns a) ⌝ }
 {
-    match compared(a, b, down) {
-        Ordering::Less => b,
-        Ordering::Equal => a,
-        Ordering::Greater => a,
-    }
+    if under(a, b, down) { b } else { a }
+}
+
+fn width_of(run: Run) -> usize
+    requires { ⌜ run .first ≤ run .last ⌝ }
+    requires { ⌜ 0 < run .first ⌝ }
+    ensures { λ r. ⌜ suc (run .last) ≡ run .first + r ⌝ }
+{
+    run.last - run.first + 1
 }
 
 // What the pass does with a run. One that reaches the day after the last is neither bump nor pit.
@@ -82,26 +102,23 @@ fn fate_of<K: Total>(work: &[WorkEntry<K>], run: Run, days: usize, pass: Pass) -
         return Fate::Dropped;
     }
     let here = total_at(work, run.first);
-    let left = compared(total_at(work, run.first - 1), here, pass.down);
-    let right = compared(total_at(work, run.last + 1), here, pass.down);
-    match left {
-        Ordering::Less => match right {
-            Ordering::Less => {
-                if run.last - run.first + 1 == pass.width {
-                    Fate::Levelled
-                } else {
-                    Fate::Kept
-                }
-            }
-            Ordering::Equal => Fate::Dropped,
-            Ordering::Greater => Fate::Dropped,
-        },
-        Ordering::Equal => Fate::Dropped,
-        Ordering::Greater => match right {
-            Ordering::Less => Fate::Dropped,
-            Ordering::Equal => Fate::Dropped,
-            Ordering::Greater => Fate::Kept,
-        },
+    let left = total_at(work, run.first - 1);
+    let right = total_at(work, run.last + 1);
+    if under(left, here, pass.down) {
+        if !under(right, here, pass.down) {
+            return Fate::Dropped;
+        }
+        if width_of(run) == pass.width {
+            Fate::Levelled
+        } else {
+            Fate::Kept
+        }
+    } else {
+        if under(here, right, pass.down) {
+            Fate::Kept
+        } else {
+            Fate::Dropped
+        }
     }
 }
 
@@ -212,6 +229,17 @@ pub(crate) fn level_width<K: Total, S: Shelf<K>>(
     at
 }
 
+// Puts a row after those that there are. Answers their new number.
+fn put_next<K: Total, S: Shelf<K>>(shelf: &mut S, rows: usize, row: Row<K>) -> usize
+    requires { ⌜ rows < 65536 ⌝ }
+    ensures slots { λ _. ⌜ slots (now (shelf .exit)) ≡ set (slots (now (shelf .entry))) rows (shown kind columns row) ⌝ }
+    ensures rows { λ r. ⌜ r ≡ rows + 1 ⌝ }
+    ensures outside { λ _. ⌜ outside (now (shelf .exit)) ≡ outside (now (shelf .entry)) ⌝ }
+{
+    let _ = shelf.put(rows, &row);
+    rows + 1
+}
+
 // One marked run in a pass.
 fn visit<K: Total, S: Shelf<K>>(
     work: &mut [WorkEntry<K>],
@@ -235,13 +263,12 @@ fn visit<K: Total, S: Shelf<K>>(
     };
     match fate_of(work, run, days, pass) {
         Fate::Levelled => {
-            let row = pulse(work, run, pass);
-            let _ = shelf.put(at.rows, &row);
+            let rows = put_next(shelf, at.rows, pulse(work, run, pass));
             let new = level(work, run, pass.down);
             Progress {
                 kept: marked(work, at.kept, new.first),
                 reached: new.last,
-                rows: at.rows + 1,
+                rows,
             }
         }
         Fate::Kept => {

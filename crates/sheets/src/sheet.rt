@@ -1,6 +1,8 @@
 ghost use mathlib.Core.List.{map};
 ghost use mathlib.Core.Path.{_≡_};
+ghost use Prim.Native.Nat.{_+_, _<_, _≤_};
 ghost use lib.ListN.{length};
+ghost use Rattle.std.specs.Orderings.{When};
 ghost use Rattle.sheets.specs.Takes.{Barred-day, Refusal-of, Take, state-of};
 use crate::splitting::split;
 use crate::work::WorkEntry;
@@ -49,6 +51,25 @@ impl<K: Total, S: Shelf<K>> Sheet<K, S> {
 
 const MOST_DAYS: usize = 1000;
 
+fn too_many(days: usize) -> bool
+    ensures { λ r. ⌜ When r (1000 < days) (days ≤ 1000) ⌝ }
+{
+    days > MOST_DAYS
+}
+
+fn too_short(entries: usize, days: usize) -> bool
+    requires { ⌜ days ≤ 1000 ⌝ }
+    ensures { λ r. ⌜ When r (entries < days + 2) (days + 2 ≤ entries) ⌝ }
+{
+    days + 2 > entries
+}
+
+fn too_small(capacity: usize, days: usize) -> bool
+    ensures { λ r. ⌜ When r (capacity < days) (days ≤ capacity) ⌝ }
+{
+    days > capacity
+}
+
 fn day_count<K: Total>(totals: &[K]) -> usize
     ensures { λ r. ⌜ r ≡ length (map columns (now (totals .entry))) ⌝ }
 {
@@ -74,16 +95,16 @@ fn refused_take<K: Total>(totals: &[K], entries: usize, capacity: usize) -> Opti
     ensures { λ r. ⌜ Refusal-of kind (map columns (now (totals .entry))) entries capacity r ⌝ }
 {
     let days = day_count(totals);
-    if days > MOST_DAYS {
+    if too_many(days) {
         return Some(Refusal::TooManyDays);
     }
     if let Some(day) = first_barred(totals) {
         return Some(Refusal::MayNotEnter { day });
     }
-    if entries < days + 2 {
+    if too_short(entries, days) {
         return Some(Refusal::WorkTooShort);
     }
-    if capacity < days {
+    if too_small(capacity, days) {
         return Some(Refusal::ShelfTooSmall);
     }
     None

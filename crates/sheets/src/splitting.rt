@@ -5,8 +5,9 @@ ghost use lib.ListN.{length};
 ghost use Rattle.transform.specs.Pulses.{pulses};
 ghost use Rattle.sheets.specs.Takes.{Accepted, laid};
 use crate::layout::build;
-use crate::levelling::Pass;
+use crate::levelling::bumps;
 use crate::levelling::level_width;
+use crate::levelling::pits;
 use crate::work::WorkEntry;
 use kinds::Total;
 use shelves::Shelf;
@@ -31,15 +32,8 @@ pub(crate) fn split<K: Total, S: Shelf<K>>(
             return rows;
         }
         let width = done + 1;
-        let up = level_width(work, shelf, days, marks, rows, Pass { width, down: false });
-        let down = level_width(
-            work,
-            shelf,
-            days,
-            up.kept,
-            up.rows,
-            Pass { width, down: true },
-        );
+        let up = level_width(work, shelf, days, marks, rows, bumps(width));
+        let down = level_width(work, shelf, days, up.kept, up.rows, pits(width));
         marks = down.kept;
         rows = down.rows;
     }

@@ -7,7 +7,7 @@ ghost use Rattle.kinds.specs.Columns.{plus};
 ghost use Rattle.shelves.specs.Slots.{shown};
 ghost use Rattle.transform.specs.Pulses.{standing as stood};
 ghost use Rattle.sheets.specs.Standing.{stands-in};
-ghost use Rattle.sheets.specs.Questions.{Comes-to, Adds, Stands};
+ghost use Rattle.sheets.specs.Inside.{Comes-to, Adds, Stands};
 use crate::marks::held_row;
 use crate::sheet::Stop;
 use kinds::Total;

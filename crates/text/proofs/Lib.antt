@@ -5,3 +5,9 @@ pub mod TraceFacts
 pub mod LinesFacts
 pub mod WrittenFacts
 pub mod LineFacts
+pub mod RecordFacts
+pub mod FigureLaws
+pub mod BackFacts
+pub mod BackLines
+pub mod BackText
+pub mod AcceptedFacts

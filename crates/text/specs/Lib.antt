@@ -9,3 +9,5 @@ pub mod Written
 pub mod Values
 pub mod Turns
 pub mod Texts
+pub mod Laws
+pub mod Accepted

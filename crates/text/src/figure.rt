@@ -1,9 +1,11 @@
 // The figure reader: a machine over the bytes of one field.
 ghost use mathlib.Core.Path.{_≡_};
 ghost use mathlib.Core.List.{List, [], _∷_};
+ghost use lib.Dec.{eqb};
 ghost use Prim.Native.Nat.{ℕ, _<_};
 ghost use Rattle.text.specs.Bytes.{classOf};
 ghost use Rattle.text.specs.Figures.{figure};
+ghost use Rattle.text.specs.Laws.{Figures-agree};
 ghost use Rattle.text.specs.Reader.{outcome, Sound, begun, continued};
 use crate::byte::Class;
 use crate::byte::class_of;
@@ -83,13 +85,20 @@ impl FigureReader {
         };
     }
 
+    // Whether it has as many digits as a figure may have.
+    fn is_full(&self) -> bool
+        ensures { λ r. ⌜ r ≡ eqb (now (self .entry) .count) 18 ⌝ }
+    {
+        self.count == MOST_DIGITS
+    }
+
     // Takes a further digit in.
     fn next(&mut self, d: u8)
         requires { ⌜ Sound (now self) ⌝ ∗ ⌜ d < 10 ⌝ }
         ensures sound { λ _. ⌜ Sound (now (self .exit)) ⌝ }
         ensures after { λ _. ⌜ now (self .exit) ≡ continued (now (self .entry)) d ⌝ }
     {
-        if self.count == MOST_DIGITS {
+        if self.is_full() {
             self.state = State::Wrong;
         } else {
             self.count += 1;
@@ -124,4 +133,11 @@ pub fn read_figure(bytes: &[u8]) -> Option<i64>
         reader.step(*b);
     }
     reader.end()
+}
+
+// The law of figures, for proofs above: what is written reads back, and what reads is what would be written.
+pub fn figures_agree() -> u8
+    ensures { λ _. ⌜ Figures-agree ⌝ }
+{
+    0
 }

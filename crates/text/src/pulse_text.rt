@@ -70,7 +70,7 @@ fn pulse_names<K: Total>() -> PulseNames
 }
 
 // The first column of a total.
-fn first_of<K: Total>(total: K) -> i64
+pub fn first_of<K: Total>(total: K) -> i64
     ensures { λ r. ⌜ r ≡ first (K·Total .kind .arity) (K·Total .columns total) ⌝ }
 {
     match total.column(1) {
@@ -80,7 +80,7 @@ fn first_of<K: Total>(total: K) -> i64
 }
 
 // The second column of a total, if it has one.
-fn second_of<K: Total>(total: K) -> Option<i64>
+pub fn second_of<K: Total>(total: K) -> Option<i64>
     ensures { λ r. ⌜ r ≡ second (K·Total .kind .arity) (K·Total .columns total) ⌝ }
 {
     total.column(2)

@@ -5,13 +5,15 @@ ghost use mathlib.Core.Bool.{Bool, cond};
 ghost use mathlib.Core.List.{List, [], _∷_, _++_};
 ghost use lib.ListN.{length};
 ghost use Prim.Native.Nat.{ℕ, _+_, _≤_};
-ghost use Rattle.refusals.specs.Table.{number};
+ghost use Rattle.refusals.specs.declared.refusal.Refusal.the-variants.{OutputTooShort};
+ghost use Rattle.text.specs.declared.fault.FileFault.the-variants.{Writing};
 ghost use Rattle.text.specs.Headings.{letters};
 ghost use Rattle.text.specs.Traces.{told};
 ghost use Rattle.text.specs.Values.{line, shown};
 ghost use Rattle.text.specs.Turns.{Write-the-names-first, Begin-another-text};
 ghost use Rattle.text.specs.Written.{pasted, Leaves, Writes, Moves};
 use crate::digits::put_byte;
+use crate::fault::FileFault;
 use crate::fields::COMMA;
 use crate::fields::LINE_FEED;
 use crate::heading::Heading;
@@ -106,9 +108,17 @@ pub struct Short<S> {
 
 impl<S> Short<S> {
     pub fn refusal(&self) -> Refusal
-        ensures { λ r. ⌜ number r ≡ 14 ⌝ }
+        ensures { λ r. ⌜ r ≡ OutputTooShort ⌝ }
     {
         Refusal::OutputTooShort
+    }
+}
+
+pub impl<S: Drop> From<Short<S>> for FileFault as FileFaultFromShort {
+    ghost converts = { λ _ y. y ≡ Writing OutputTooShort };
+
+    fn from(value: Short<S>) -> FileFault {
+        FileFault::Writing(value.refusal())
     }
 }
 
@@ -162,7 +172,8 @@ impl Ended {
     pub fn length(&self) -> usize
         ensures { λ r. ⌜ r ≡ now (self .entry) .at ⌝ }
     {
-        self.at
+        let Ended { at } = self;
+        *at
     }
 
     // No line stands behind the end of a text, so nothing can call this.

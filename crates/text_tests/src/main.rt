@@ -14,6 +14,7 @@ use kinds::WholeIsOneColumn;
 use kinds::WholeIsTotal;
 use std::io;
 use text::FileFault;
+use text::Lines;
 use text::Naming;
 use text::Value;
 use text::Word;
@@ -23,6 +24,7 @@ use text::read_trace;
 use text::write_pulse;
 use text::write_pulse_names;
 use text::write_refusal;
+use text::write_trace;
 
 type Paper = Cents;
 
@@ -46,12 +48,33 @@ fn show_fault(rt: &LibcRuntime, fault: FileFault) -> io::Result<()> {
     println!(rt, "{number} at line {line}, byte {byte}")
 }
 
-// Reads a text into a list of four totals.
-fn read<K: Total>(rt: &LibcRuntime, label: &str, text: &[u8]) -> io::Result<()> {
-    print!(rt, "{label}: ")?;
-    let zero = K::zero();
+// Read a text into a list of four totals.
+fn read_paper(rt: &LibcRuntime, label: &str, text: &[u8]) -> io::Result<()> {
+    let zero = Paper::zero();
     let mut totals = [zero, zero, zero, zero];
-    match read_trace::<K>(text, &mut totals) {
+    read_into(rt, label, text, &mut totals)
+}
+
+fn read_mobile(rt: &LibcRuntime, label: &str, text: &[u8]) -> io::Result<()> {
+    let zero = Mobile::zero();
+    let mut totals = [zero, zero, zero, zero];
+    read_into(rt, label, text, &mut totals)
+}
+
+fn read_twins(rt: &LibcRuntime, label: &str, text: &[u8]) -> io::Result<()> {
+    let zero = Twins::zero();
+    let mut totals = [zero, zero, zero, zero];
+    read_into(rt, label, text, &mut totals)
+}
+
+fn read_into<K: Total>(
+    rt: &LibcRuntime,
+    label: &str,
+    text: &[u8],
+    totals: &mut [K],
+) -> io::Result<()> {
+    print!(rt, "{label}: ")?;
+    match read_trace::<K>(text, totals) {
         Ok(days) => {
             print!(rt, "{days} days")?;
             for (i, total) in totals.iter().enumerate() {
@@ -66,65 +89,65 @@ fn read<K: Total>(rt: &LibcRuntime, label: &str, text: &[u8]) -> io::Result<()> 
 }
 
 fn good_texts(rt: &LibcRuntime) -> io::Result<()> {
-    read::<Paper>(rt, "no days", b"day,cents\n")?;
-    read::<Paper>(rt, "two days", b"day,cents\n1,2\n2,-1\n")?;
-    read::<Paper>(rt, "names turned", b"cents,day\n7,1\n0,2\n")?;
-    read::<Mobile>(rt, "mobile", b"day,cents,pieces\n1,4,1\n2,4,3\n")?;
-    read::<Mobile>(rt, "mobile turned", b"pieces,day,cents\n-9,1,5\n")?;
-    read::<Paper>(rt, "largest entry", b"day,cents\n1,1000000000000\n")
+    read_paper(rt, "no days", b"day,cents\n")?;
+    read_paper(rt, "two days", b"day,cents\n1,2\n2,-1\n")?;
+    read_paper(rt, "names turned", b"cents,day\n7,1\n0,2\n")?;
+    read_mobile(rt, "mobile", b"day,cents,pieces\n1,4,1\n2,4,3\n")?;
+    read_mobile(rt, "mobile turned", b"pieces,day,cents\n-9,1,5\n")?;
+    read_paper(rt, "largest entry", b"day,cents\n1,1000000000000\n")
 }
 
 fn bad_names(rt: &LibcRuntime) -> io::Result<()> {
-    read::<Twins>(rt, "twin names", b"day,cents,cents\n")?;
-    read::<Paper>(rt, "empty text", b"")?;
-    read::<Paper>(rt, "empty names line", b"\n1,2\n")?;
-    read::<Paper>(rt, "unknown name", b"day,coins\n")?;
-    read::<Paper>(rt, "repeated name", b"day,cents,day\n")?;
-    read::<Paper>(rt, "leftmost name first", b"day,day,coins")?;
-    read::<Paper>(rt, "missing name", b"day\n1\n")?;
-    read::<Mobile>(rt, "missing pieces", b"day,cents\n1,2\n")?;
-    read::<Paper>(rt, "unended names line", b"day,cents")?;
-    read::<Paper>(rt, "name of another kind", b"day,cents,pieces\n")
+    read_twins(rt, "twin names", b"day,cents,cents\n")?;
+    read_paper(rt, "empty text", b"")?;
+    read_paper(rt, "empty names line", b"\n1,2\n")?;
+    read_paper(rt, "unknown name", b"day,coins\n")?;
+    read_paper(rt, "repeated name", b"day,cents,day\n")?;
+    read_paper(rt, "leftmost name first", b"day,day,coins")?;
+    read_paper(rt, "missing name", b"day\n1\n")?;
+    read_mobile(rt, "missing pieces", b"day,cents\n1,2\n")?;
+    read_paper(rt, "unended names line", b"day,cents")?;
+    read_paper(rt, "name of another kind", b"day,cents,pieces\n")
 }
 
 fn bad_lines(rt: &LibcRuntime) -> io::Result<()> {
-    read::<Paper>(rt, "too few fields", b"day,cents\n1,2\n2\n")?;
-    read::<Paper>(rt, "too many fields", b"day,cents\n1,2,3\n")?;
-    read::<Paper>(rt, "empty line", b"day,cents\n\n")?;
-    read::<Paper>(rt, "unended line", b"day,cents\n1,2")?;
-    read::<Paper>(rt, "unended second line", b"day,cents\n1,2\n2,3")?;
-    read::<Paper>(rt, "no figure", b"day,cents\n1,x\n")?;
-    read::<Paper>(rt, "leftmost figure first", b"day,cents\n01,-0\n")?;
-    read::<Paper>(rt, "minus zero", b"day,cents\n1,-0\n")?;
-    read::<Paper>(rt, "19 digits", b"day,cents\n1,1000000000000000000\n")?;
-    read::<Paper>(rt, "18 digits", b"day,cents\n1,100000000000000000\n")?;
-    read::<Paper>(rt, "day out of turn", b"day,cents\n1,5\n3,5\n")?;
-    read::<Paper>(rt, "day in the second field", b"cents,day\n5,2\n")?;
-    read::<Paper>(rt, "day below zero", b"day,cents\n-1,5\n")?;
-    read::<Paper>(rt, "count before figure", b"day,cents\nx\n")?;
-    read::<Paper>(rt, "figure before day", b"day,cents\n2,x\n")?;
-    read::<Paper>(
+    read_paper(rt, "too few fields", b"day,cents\n1,2\n2\n")?;
+    read_paper(rt, "too many fields", b"day,cents\n1,2,3\n")?;
+    read_paper(rt, "empty line", b"day,cents\n\n")?;
+    read_paper(rt, "unended line", b"day,cents\n1,2")?;
+    read_paper(rt, "unended second line", b"day,cents\n1,2\n2,3")?;
+    read_paper(rt, "no figure", b"day,cents\n1,x\n")?;
+    read_paper(rt, "leftmost figure first", b"day,cents\n01,-0\n")?;
+    read_paper(rt, "minus zero", b"day,cents\n1,-0\n")?;
+    read_paper(rt, "19 digits", b"day,cents\n1,1000000000000000000\n")?;
+    read_paper(rt, "18 digits", b"day,cents\n1,100000000000000000\n")?;
+    read_paper(rt, "day out of turn", b"day,cents\n1,5\n3,5\n")?;
+    read_paper(rt, "day in the second field", b"cents,day\n5,2\n")?;
+    read_paper(rt, "day below zero", b"day,cents\n-1,5\n")?;
+    read_paper(rt, "count before figure", b"day,cents\nx\n")?;
+    read_paper(rt, "figure before day", b"day,cents\n2,x\n")?;
+    read_paper(
         rt,
         "may not be entered",
         b"day,cents\n1,5\n2,1000000000001\n",
     )?;
-    read::<Mobile>(
+    read_mobile(
         rt,
         "pieces may not be entered",
         b"day,cents,pieces\n1,5,-1000000001\n",
     )?;
-    read::<Paper>(
+    read_paper(
         rt,
         "list too short",
         b"day,cents\n1,1\n2,1\n3,1\n4,1\n5,1\n",
     )?;
-    read::<Paper>(rt, "carriage return", b"day,cents\r\n1,2\r\n")
+    read_paper(rt, "carriage return", b"day,cents\r\n1,2\r\n")
 }
 
 fn long_text(rt: &LibcRuntime) -> io::Result<()> {
     let text = [b'x'; 40_001];
-    read::<Paper>(rt, "over 40,000 bytes", &text)?;
-    read::<Paper>(rt, "40,000 bytes", &text[0..40_000])
+    read_paper(rt, "over 40,000 bytes", &text)?;
+    read_paper(rt, "40,000 bytes", &text[0..40_000])
 }
 
 fn show_field(
@@ -168,10 +191,7 @@ fn pulses(rt: &LibcRuntime) -> io::Result<()> {
     let Ok(lines) = write_pulse_names::<Mobile>(Naming::begin(), &mut out) else {
         return println!(rt, "too short");
     };
-    let amount = Pair {
-        first: Whole::<CentsUnit>::new(-12),
-        second: Whole::<PiecesUnit>::new(3),
-    };
+    let amount = mobile(-12, 3);
     let Ok(lines) = write_pulse::<Mobile>(lines, 1, 2, 17, amount, Word::In, &mut out) else {
         return println!(rt, "too short");
     };
@@ -183,7 +203,7 @@ fn pulses(rt: &LibcRuntime) -> io::Result<()> {
         Ok(_) => println!(rt, "fits")?,
         Err(short) => {
             let number = short.refusal().number();
-            let length = short.state.end().length();
+            let length = end(short.state, &mut out);
             println!(rt, "{number} behind {length} bytes")?;
         }
     }
@@ -202,6 +222,57 @@ fn refusals(rt: &LibcRuntime) -> io::Result<()> {
     println!(rt, "{none} bytes")
 }
 
+fn show_written(
+    rt: &LibcRuntime,
+    label: &str,
+    result: Result<usize, refusals::Refusal>,
+    out: &[u8],
+) -> io::Result<()> {
+    match result {
+        Ok(bytes) => println!(rt, "{label}: {bytes} bytes")?,
+        Err(refusal) => {
+            let number = refusal.number();
+            let day = refusal.day();
+            println!(rt, "{label}: {number}, day {day}")?;
+        }
+    }
+    show_bytes(rt, out)?;
+    println!(rt, "")
+}
+
+// Writes two mobile totals into a buffer that is just long enough, and into one that is too short.
+fn records(rt: &LibcRuntime) -> io::Result<()> {
+    let totals = [mobile(1_000_000_000_000, -1), mobile(0, 1_000_000_000)];
+    let mut out = [b'.'; 55];
+    let written = write_trace(&totals, &mut out);
+    show_written(rt, "two days", written, &out)?;
+    let mut short = [b'.'; 50];
+    let refused = write_trace(&totals, &mut short);
+    show_written(rt, "one byte short", refused, &short)?;
+    let large = [mobile(1, 1), mobile(1, 1_000_000_001)];
+    let refused = write_trace(&large, &mut short);
+    show_written(rt, "may not be entered", refused, &short)?;
+    let twins = [Pair {
+        first: Whole::<CentsUnit>::new(1),
+        second: Whole::<CentsUnit>::new(2),
+    }];
+    let refused = write_trace(&twins, &mut short);
+    show_written(rt, "twin names", refused, &short)
+}
+
+fn mobile(cents: i64, pieces: i64) -> Mobile {
+    Pair {
+        first: Whole::<CentsUnit>::new(cents),
+        second: Whole::<PiecesUnit>::new(pieces),
+    }
+}
+
+// Ends a text, and tells its length.
+fn end(text: Lines, _out: &mut [u8]) -> usize {
+    let ended = text.end();
+    ended.length()
+}
+
 fn main(rt: LibcRuntime) -> io::Result<()> {
     good_texts(&rt)?;
     bad_names(&rt)?;
@@ -209,5 +280,6 @@ fn main(rt: LibcRuntime) -> io::Result<()> {
     long_text(&rt)?;
     fields(&rt)?;
     pulses(&rt)?;
-    refusals(&rt)
+    refusals(&rt)?;
+    records(&rt)
 }

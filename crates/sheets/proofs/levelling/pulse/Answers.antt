@@ -1,11 +1,9 @@
 use mathlib.Core.Bool.{true}
 use mathlib.Core.Path.{_≡_, ap}
+use Rattle.std.proofs.shelf.Tests.{cond-both}
 use Rattle.kinds.specs.Columns.{within}
 use Rattle.kinds.specs.Kinds.{Of}
-use Rattle.transform.proofs.Order.{higher-both}
 use Rattle.sheets.specs.Takes.{row-of}
-use Rattle.sheets.specs.Passes.{aimed}
-use Rattle.sheets.proofs.Aims.{aimed-lawful}
 use Rattle.sheets.proofs.Amounts.{amount-given}
 use Rattle.sheets.proofs.levelling.pulse.Needs as need
 
@@ -15,7 +13,7 @@ unwrap-amount-requires g c κs =
     amount-given (T .kind) (g .K·Total·met .lawful) (T .columns) _ _ (c .difference .result)
     (rw (c .total-at .ensures) (c .pre .4))
     (rw (c .nearer-level .ensures, c .total-at-left .ensures, c .total-at-right .ensures)
-    (higher-both (aimed (T .kind) (c .args .pass .down)) (aimed-lawful _ (g .K·Total·met .lawful) (c .args .pass .down)) _ _ (λ a. within (T .kind .arity) (T .kind .bound) a ≡ true) (c .pre .5) (c .pre .6)))
+    (cond-both _ _ _ (λ a. within (T .kind .arity) (T .kind .bound) a ≡ true) (λ _. c .pre .6) (λ _. c .pre .5)))
     (c .difference .ensures)
 
 pub returns : need.returns

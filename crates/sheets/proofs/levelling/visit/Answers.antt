@@ -21,8 +21,8 @@ fate-of-requires g c κs =
     let O = g .K·Total·met .lawful in
     rw (c .other-at .ensures) (visit-starts _ O _ _ _ _ _ _ _ _ _ _ _ V, visit-order _ O _ _ _ _ _ _ _ _ _ _ _ V, c .pre .room, visit-end _ O _ _ _ _ _ _ _ _ _ _ _ V)
 
-pub pulse-row-requires : need.pulse-row-requires
-pulse-row-requires g c κs =
+pub pulse-requires : need.pulse-requires
+pulse-requires g c κs =
     let V = c .pre .stands .4 in
     let O = g .K·Total·met .lawful in
     let F = rw (c .other-at .ensures) at (c .in-Levelled .ensures tt) in
@@ -75,12 +75,12 @@ returns-in-Levelled g c =
         record {
           list = bump-pulse (g .K·Total .kind) (c .args .pass .down) v (c .args .pass .width) (c .args .first) (v .other (c .args .first)) ∷ [];
           more = levelled-one _ O _ _ _ _ _ _ _ _ _ _ _ V F _ _ _ _ _ E (c .marked .ensures);
-          put = c .put .ensures .slots ∙ ap (λ e. set (g .S·Shelf .slots (c .args .shelf .now)) (c .args .at .rows) e) (rw (c .other-at .ensures) at (c .pulse-row .ensures));
-          count = refl;
+          put = c .put-next-rows .ensures .slots ∙ ap (λ e. set (g .S·Shelf .slots (c .args .shelf .now)) (c .args .at .rows) e) (rw (c .other-at .ensures) at (c .pulse .ensures));
+          count = c .put-next-rows .ensures .rows;
         },
       );
-      rows = omega arith;
-      outside = c .put .ensures .outside;
+      rows = omega (arith, c .put-next-rows .ensures .rows);
+      outside = c .put-next-rows .ensures .outside;
     }
 
 pub returns-in-Kept : need.returns-in-Kept

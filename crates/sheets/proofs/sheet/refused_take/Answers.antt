@@ -2,8 +2,8 @@ use native.Mathlib.Omega.{arith}
 use Rattle.sheets.proofs.Grounds.{none-below, none-at-all}
 use Rattle.sheets.proofs.sheet.refused_take.Needs as need
 
-pub returns-then-days-gt-MOST-DAYS : need.returns-then-days-gt-MOST-DAYS
-returns-then-days-gt-MOST-DAYS g c =
+pub returns-then-too-many : need.returns-then-too-many
+returns-then-too-many g c =
     record {
       ground = omega arith;
       lowest = none-below _ _ _ _ 1 (λ h. absurd (omega arith)) (λ h. absurd (omega arith)) (λ h. absurd (omega arith)) (λ h. absurd (omega arith));
@@ -16,15 +16,15 @@ returns-in-Some g c =
       lowest = none-below _ _ _ _ 2 (λ h. omega arith) (λ h. absurd (omega arith)) (λ h. absurd (omega arith)) (λ h. absurd (omega arith));
     }
 
-pub returns-then-entries-days : need.returns-then-entries-days
-returns-then-entries-days g c =
+pub returns-then-too-short : need.returns-then-too-short
+returns-then-too-short g c =
     record {
       ground = omega arith;
       lowest = none-below _ _ _ _ 3 (λ h. omega arith) (λ h. c .in-rest .ensures tt) (λ h. absurd (omega arith)) (λ h. absurd (omega arith));
     }
 
-pub returns-then-capacity-days : need.returns-then-capacity-days
-returns-then-capacity-days g c =
+pub returns-then-too-small : need.returns-then-too-small
+returns-then-too-small g c =
     record {
       ground = omega arith;
       lowest = none-below _ _ _ _ 4 (λ h. omega arith) (λ h. c .in-rest .ensures tt) (λ h. omega arith) (λ h. absurd (omega arith));

@@ -35,7 +35,7 @@ level-width-up-requires g c κs =
       room = omega (arith, accepted-room _ _ _ _ (c .pre));
       few = rw (← q) (accepted-few _ _ _ _ (c .pre));
       rows = rows-up _ O _ _ q _ _ _ _ _ _ (c .loop-done .inv .0) (accepted-enter _ _ _ _ (c .pre)) (c .loop-done-test .taken);
-      stands = (b, m, rw e (ready-up _ O _ _ q _ _ _ _ _ _ (c .loop-done .inv .0) (accepted-enter _ _ _ _ (c .pre)) (c .loop-done-test .taken)));
+      stands = (b, m, rw (c .bumps .ensures .0, c .bumps .ensures .1, e) (ready-up _ O _ _ q _ _ _ _ _ _ (c .loop-done .inv .0) (accepted-enter _ _ _ _ (c .pre)) (c .loop-done-test .taken)));
     }
 
 pub level-width-down-requires : need.level-width-down-requires
@@ -47,12 +47,12 @@ level-width-down-requires g c κs =
     let q = length-map (c .args .totals .now) (g .K·Total .columns) in
     let O = g .K·Total·met .lawful in
     let e : c .loop-done .done + 1 ≡ suc (c .loop-done .done) = omega arith in
-    let W = c .level-width-up .ensures .stands b m (rw e (ready-up _ O _ _ q _ _ _ _ _ _ (c .loop-done .inv .0) (accepted-enter _ _ _ _ (c .pre)) (c .loop-done-test .taken))) in
+    let W = rw (c .bumps .ensures .1) at (c .level-width-up .ensures .stands b m (rw (c .bumps .ensures .0, c .bumps .ensures .1, e) (ready-up _ O _ _ q _ _ _ _ _ _ (c .loop-done .inv .0) (accepted-enter _ _ _ _ (c .pre)) (c .loop-done-test .taken)))) in
     record {
       room = omega (arith, accepted-room _ _ _ _ (c .pre));
       few = rw (← q) (accepted-few _ _ _ _ (c .pre));
       rows = rows-down _ O _ _ q _ _ _ _ _ _ (c .loop-done .inv .0) (accepted-enter _ _ _ _ (c .pre)) (c .loop-done-test .taken) _ _ _ _ W;
-      stands = (m, smooth K (suc (c .loop-done .done)) xs, rw e (ready-down _ O _ _ q _ _ _ _ _ _ (c .loop-done .inv .0) (accepted-enter _ _ _ _ (c .pre)) (c .loop-done-test .taken) _ _ _ _ W));
+      stands = (m, smooth K (suc (c .loop-done .done)) xs, rw (c .pits .ensures .0, c .pits .ensures .1, e) (ready-down _ O _ _ q _ _ _ _ _ _ (c .loop-done .inv .0) (accepted-enter _ _ _ _ (c .pre)) (c .loop-done-test .taken) _ _ _ _ W));
     }
 
 pub loop-done-again : need.loop-done-again
@@ -64,8 +64,8 @@ loop-done-again g c =
     let q = length-map (c .args .totals .now) (g .K·Total .columns) in
     let O = g .K·Total·met .lawful in
     let e : c .loop-done .done + 1 ≡ suc (c .loop-done .done) = omega arith in
-    let W = c .level-width-up .ensures .stands b m (rw e (ready-up _ O _ _ q _ _ _ _ _ _ (c .loop-done .inv .0) (accepted-enter _ _ _ _ (c .pre)) (c .loop-done-test .taken))) in
-    let X = c .level-width-down .ensures .stands m (smooth K (suc (c .loop-done .done)) xs) (rw e (ready-down _ O _ _ q _ _ _ _ _ _ (c .loop-done .inv .0) (accepted-enter _ _ _ _ (c .pre)) (c .loop-done-test .taken) _ _ _ _ W)) in (
+    let W = rw (c .bumps .ensures .1) at (c .level-width-up .ensures .stands b m (rw (c .bumps .ensures .0, c .bumps .ensures .1, e) (ready-up _ O _ _ q _ _ _ _ _ _ (c .loop-done .inv .0) (accepted-enter _ _ _ _ (c .pre)) (c .loop-done-test .taken)))) in
+    let X = rw (c .pits .ensures .1) at (c .level-width-down .ensures .stands m (smooth K (suc (c .loop-done .done)) xs) (rw (c .pits .ensures .0, c .pits .ensures .1, e) (ready-down _ O _ _ q _ _ _ _ _ _ (c .loop-done .inv .0) (accepted-enter _ _ _ _ (c .pre)) (c .loop-done-test .taken) _ _ _ _ W))) in (
       rw e (so-far-more _ O _ _ q _ _ _ _ _ _ (c .loop-done .inv .0) (accepted-enter _ _ _ _ (c .pre)) (c .loop-done-test .taken) _ _ _ _ W _ _ _ _ X),
       c .level-width-down .ensures .outside ∙ (c .level-width-up .ensures .outside ∙ c .loop-done .inv .1),
     )

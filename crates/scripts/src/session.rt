@@ -4,6 +4,7 @@ use crate::answers::print_count;
 use crate::answers::print_pulse;
 use crate::answers::print_stop;
 use crate::answers::print_totals;
+use crate::lists::filled;
 use crate::script::Command;
 use crate::script::Script;
 use kinds::Total;
@@ -11,6 +12,7 @@ use report::MOST_REPORT_BYTES;
 use report::write_pulses;
 use sheets::Sheet;
 use sheets::WorkEntry;
+use sheets::sheet_after;
 use shelves::Shelf;
 use std::error::AnyError;
 use std::io::Write;
@@ -18,6 +20,12 @@ use text::read_trace;
 
 // As many totals as a text may hold.
 const MOST_DAYS: usize = 1000;
+
+// A new sheet: the one after no calls. What is promised of a sheet after any list of calls holds of
+// it, and each call of the script continues its history.
+pub fn opened<K: Total, S: Shelf<K>>(shelf: S) -> Sheet<K, S> {
+    sheet_after(shelf, &[], &[], &mut [])
+}
 
 // Answers the script's lines up to its end or the question for the memory; true where that came.
 pub fn play<K: Total, S: Shelf<K>>(
@@ -85,8 +93,8 @@ fn take<K: Total, S: Shelf<K>>(
     entries: usize,
 ) -> Result<(), AnyError> {
     let text = text_of(rt, script)?;
-    let mut totals = vec![in rt.alloc(); K::zero(); MOST_DAYS]?;
-    let mut work = vec![in rt.alloc(); WorkEntry::<K>::new(); entries]?;
+    let mut totals = filled(rt.alloc(), K::zero(), MOST_DAYS)?;
+    let mut work = filled(rt.alloc(), WorkEntry::<K>::new(), entries)?;
     match read_trace(text.as_slice(), totals.as_mut_slice()) {
         Ok(days) => match totals.as_slice().get(0..days) {
             Some(record) => print_count(rt, sheet.take(record, work.as_mut_slice()))?,
@@ -109,7 +117,7 @@ fn trace<K: Total, S: Shelf<K>>(
     sheet: &Sheet<K, S>,
     room: usize,
 ) -> Result<(), AnyError> {
-    let mut totals = vec![in rt.alloc(); K::zero(); room]?;
+    let mut totals = filled(rt.alloc(), K::zero(), room)?;
     match sheet.trace(totals.as_mut_slice()) {
         Ok(days) => match totals.as_slice().get(0..days) {
             Some(standing) => print_totals(rt, standing)?,
@@ -122,7 +130,7 @@ fn trace<K: Total, S: Shelf<K>>(
 
 // The pulse text with the states.
 fn list<K: Total, S: Shelf<K>>(rt: &LibcRuntime, sheet: &Sheet<K, S>) -> Result<(), AnyError> {
-    let mut out = vec![in rt.alloc(); 0u8; MOST_REPORT_BYTES]?;
+    let mut out = filled(rt.alloc(), 0u8, MOST_REPORT_BYTES)?;
     match write_pulses(sheet, out.as_mut_slice()) {
         Ok(bytes) => match out.as_slice().get(0..bytes) {
             Some(text) => rt.stdout().write_all(text)?,

@@ -1,0 +1,7 @@
+mod TextFacts
+mod ReadFacts
+mod TakeFacts
+mod LengthFacts
+mod ReportFacts
+mod TellFacts
+mod SplitFacts

@@ -1,0 +1,3 @@
+pub mod PulseTexts
+pub mod Reports
+pub mod Worked
