@@ -29,7 +29,7 @@ use Rattle.sheets.specs.Takes.{State}
 use Rattle.sheets.specs.History.{Calls, row, Shows}
 use Rattle.sheets.specs.Standing.{stand-in, standing-total, standing-trace, standing-swing}
 use Rattle.sheets.specs.Questions.{Unled, Comes-out, Listed, Traced}
-use Rattle.sheets.specs.Inside.{Stands, Steps, Row-held}
+use Rattle.sheets.specs.Inside.{Row-held, Stands, Steps, step, Swings-so-far}
 use Rattle.sheets.proofs.Slots.{slot-cases}
 use Rattle.sheets.proofs.History.{shows-full}
 use lib.IntN.{ℤ}
@@ -85,9 +85,6 @@ module _ {V : Type 0} (K : Kind) (columns : V → Of K) (x : Trace K) (i : ℕ) 
   rest-more e = drop-set-lt (i + 1) now i v (omega arith) ∙ sym (drop-drop 1 i now) ∙ ap (drop 1) e ∙ drop-drop 1 i before
 
 -- the steps of the standing trace
-abbrev pub step : (K : Kind) → State → ℕ → Of K
-step K s d = size K (minus (K .arity) (trace K (standing-trace K s) d) (trace K (standing-trace K s) (d - 1)))
-
 pub swing-none : (K : Kind) (s : State) → summed K 0 (step K s) ≡ nought (K .arity)
 unfolding summed
 swing-none K s = refl
@@ -169,3 +166,9 @@ pub swing-comes : {V : Type 0} (K : Kind) (O : Lawful K) (columns : V → Of K) 
 swing-comes K O columns s x from to (Ok v) a b c e = step-more K s (s .days) x from to (columns v) a b (c ∙ sym (days-past K (s .days) (standing-total K s) (s .days + 1) (omega arith))) e ∙ swing-all K s
 swing-comes K O columns s x from to (Err stop) a b c e =
     steps-unled K O columns s (s .days) x from to (standing-swing K s) stop (omega arith) a b (c ∙ sym (days-past K (s .days) (standing-total K s) (s .days + 1) (omega arith))) e
+
+-- a sum that stops before the last day
+pub swing-stops : {V : Type 0} (K : Kind) (O : Lawful K) (columns : V → Of K) (s : State) (i : ℕ) (x from to : Of K) (stop : Stop) → i ≤ s .days → x ≡ summed K i (step K s) →
+    from ≡ trace K (standing-trace K s) i → to ≡ trace K (standing-trace K s) (i + 1) → Steps K columns x from to (Err stop) → Swings-so-far K columns s (Err stop)
+swing-stops K O columns s i x from to (Refused r) l a b c e = e
+swing-stops K O columns s i x from to Unreachable l a b c e = λ h S. steps-small K O h s S i l columns Unreachable (rw (a, b, c) at e)

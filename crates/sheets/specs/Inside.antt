@@ -3,7 +3,7 @@ use mathlib.Core.Bool.{false}
 use mathlib.Core.List.{List}
 use mathlib.Core.Logic.{_⊎_}
 use mathlib.Core.Path.{_≡_}
-use Prim.Native.Nat.{ℕ, _<_, _≤_}
+use Prim.Native.Nat.{ℕ, _-_, _<_, _≤_}
 use lib.ListN.{length, getD, set}
 use Rattle.std.specs.declared.option.Option.{Option}
 use Rattle.std.specs.declared.option.Option.the-variants.{Some, None}
@@ -14,14 +14,17 @@ use Rattle.kinds.specs.Kinds.{Kind, Of}
 use Rattle.shelves.specs.declared.row.Row.{Row}
 use Rattle.shelves.specs.Slots.{Entry, shown}
 use Rattle.shelves.specs.Stretches.{Within}
-use Rattle.transform.specs.Pulses.{standing, size}
+use Rattle.transform.specs.Pulses.{standing, size, summed}
+use Rattle.transform.specs.Windows.{trace}
 use Rattle.sheets.specs.declared.questions.ListedPulse.{ListedPulse}
+use Rattle.sheets.specs.declared.questions.SoFar.{SoFar}
+use Rattle.sheets.specs.Takes.{State}
 use Rattle.sheets.specs.declared.sheet.Stop.{Stop}
 use Rattle.sheets.specs.declared.sheet.Stop.the-variants.{Refused, Unreachable}
 use Rattle.sheets.specs.Calls.{Call}
 use Rattle.sheets.specs.Marks.{marked, change, marks-changed, Marked, Blank}
-use Rattle.sheets.specs.Standing.{stands-in, stand-in}
-use Rattle.sheets.specs.Questions.{row-listed}
+use Rattle.sheets.specs.Standing.{stands-in, stand-in, standing-trace}
+use Rattle.sheets.specs.Questions.{Unled, row-listed}
 
 -- the row that the slot holds, or none, exactly where the slot is blank
 abbrev pub Row-held : {V : Type 0} (k : Kind) → (V → Of k) → List (Option Entry) → ℕ → Result (Row V) Stop → Type 0
@@ -79,3 +82,17 @@ Steps K columns x from to (Err Unreachable) =
 abbrev pub Pulse-of-row : {V : Type 0} (K : Kind) → (V → Of K) → Row V → Option (ListedPulse V) → Type 0
 Pulse-of-row K columns r None = Within (r .first) (r .width) → ⊥
 Pulse-of-row K columns r (Some p) = shown K columns r ≡ Some (row-listed K columns p)
+
+-- the steps of the standing trace, by the day that each leads to
+abbrev pub step : (K : Kind) → State → ℕ → Of K
+step K s d = size K (minus (K .arity) (trace K (standing-trace K s) d) (trace K (standing-trace K s) (d - 1)))
+
+-- the sum of the sizes of the steps up to the last day, and what stands on that day
+abbrev pub So-far : {V : Type 0} (K : Kind) → (V → Of K) → State → SoFar V → Type 0
+So-far K columns s p =
+    (columns (p .last) ≡ trace K (standing-trace K s) (s .days)) × (columns (p .sum) ≡ summed K (s .days) (step K s))
+
+abbrev pub Swings-so-far : {V : Type 0} (K : Kind) → (V → Of K) → State → Result (SoFar V) Stop → Type 0
+Swings-so-far K columns s (Ok p) = So-far K columns s p
+Swings-so-far K columns s (Err (Refused r)) = ⊥
+Swings-so-far K columns s (Err Unreachable) = Unled K s

@@ -7,7 +7,7 @@ ghost use Rattle.transform.specs.Pulses.{size};
 ghost use Rattle.sheets.specs.Takes.{state-of};
 ghost use Rattle.sheets.specs.Standing.{standing-total, standing-swing};
 ghost use Rattle.sheets.specs.Questions.{Comes-out, Listed, Standing-total, Traced};
-ghost use Rattle.sheets.specs.Inside.{Pulse-of-row, Steps};
+ghost use Rattle.sheets.specs.Inside.{Pulse-of-row, So-far, Steps, Swings-so-far};
 use crate::marks::held_row;
 use crate::sheet::Sheet;
 use crate::sheet::Stop;
@@ -77,7 +77,10 @@ impl<K: Total, S: Shelf<K>> Sheet<K, S> {
     pub fn swing(&self) -> Result<K, Stop>
         ensures { λ r. ⌜ Comes-out kind columns (state-of slots outside (now (self .entry))) (standing-swing kind (state-of slots outside (now (self .entry)))) r ⌝ }
     {
-        whole_swing(self)
+        match swing_so_far(self) {
+            Ok(so_far) => with_last_step(self, so_far),
+            Err(stop) => Err(stop),
+        }
     }
 }
 
@@ -164,9 +167,16 @@ fn with_step<K: Total>(sum: K, from: K, to: K) -> Result<K, Stop>
     }
 }
 
-// The sum of the sizes of all steps, from the zero before day 1 to the zero after the last day.
-fn whole_swing<K: Total, S: Shelf<K>>(sheet: &Sheet<K, S>) -> Result<K, Stop>
-    ensures { λ r. ⌜ Comes-out kind columns (state-of slots outside (now (sheet .entry))) (standing-swing kind (state-of slots outside (now (sheet .entry)))) r ⌝ }
+// The sum of the sizes of the steps up to the last day, and what stands on that day.
+#[derive(Copy)]
+struct SoFar<K> {
+    sum: K,
+    last: K,
+}
+
+// The sum of the sizes of the steps from the zero before day 1 to the last day.
+fn swing_so_far<K: Total, S: Shelf<K>>(sheet: &Sheet<K, S>) -> Result<SoFar<K>, Stop>
+    ensures { λ r. ⌜ Swings-so-far kind columns (state-of slots outside (now (sheet .entry))) r ⌝ }
 {
     let mut sum = K::zero();
     let mut before = K::zero();
@@ -182,5 +192,13 @@ fn whole_swing<K: Total, S: Shelf<K>>(sheet: &Sheet<K, S>) -> Result<K, Stop>
             Err(stop) => return Err(stop),
         }
     }
-    with_step(sum, before, K::zero())
+    Ok(SoFar { sum, last: before })
+}
+
+// That sum with the step to the zero after the last day.
+fn with_last_step<K: Total, S: Shelf<K>>(sheet: &Sheet<K, S>, so_far: SoFar<K>) -> Result<K, Stop>
+    requires { ⌜ So-far kind columns (state-of slots outside (now sheet)) «so_far» ⌝ }
+    ensures { λ r. ⌜ Comes-out kind columns (state-of slots outside (now (sheet .entry))) (standing-swing kind (state-of slots outside (now (sheet .entry)))) r ⌝ }
+{
+    with_step(so_far.sum, so_far.last, K::zero())
 }

@@ -11,7 +11,7 @@ const ZERO: u8 = b'0';
 const MINUS: u8 = b'-';
 
 // Writes one byte at a place of the buffer.
-pub fn put_byte(out: &mut [u8], at: usize, byte: u8)
+pub(crate) fn put_byte(out: &mut [u8], at: usize, byte: u8)
     requires { ⌜ at < length (now out) ⌝ }
     ensures { λ _. ⌜ now (out .exit) ≡ pasted at (byte ∷ []) (now (out .entry)) ⌝ }
 {
@@ -19,7 +19,7 @@ pub fn put_byte(out: &mut [u8], at: usize, byte: u8)
 }
 
 // Writes some bytes, and answers the place behind them.
-pub fn put_bytes(out: &mut [u8], at: usize, bytes: &[u8]) -> usize
+pub(crate) fn put_bytes(out: &mut [u8], at: usize, bytes: &[u8]) -> usize
     requires { ⌜ at + length (now bytes) ≤ length (now out) ⌝ }
     ensures bytes { λ r. ⌜ now (out .exit) ≡ pasted at (now (bytes .entry)) (now (out .entry)) ⌝ }
     ensures end { λ r. ⌜ r ≡ at + length (now (bytes .entry)) ⌝ }
@@ -44,7 +44,7 @@ pub fn count_digits(number: u64) -> usize
 }
 
 // Writes the digits of a number, and answers the place behind them.
-pub fn put_digits(out: &mut [u8], at: usize, number: u64) -> usize
+pub(crate) fn put_digits(out: &mut [u8], at: usize, number: u64) -> usize
     requires { ⌜ at + length (decimal number) ≤ length (now out) ⌝ }
     ensures bytes { λ r. ⌜ now (out .exit) ≡ pasted at (decimal number) (now (out .entry)) ⌝ }
     ensures end { λ r. ⌜ r ≡ at + length (decimal number) ⌝ }
@@ -68,7 +68,7 @@ pub fn count_signed(number: i64) -> usize
 }
 
 // Writes a whole number, and answers the place behind it.
-pub fn put_signed(out: &mut [u8], at: usize, number: i64) -> usize
+pub(crate) fn put_signed(out: &mut [u8], at: usize, number: i64) -> usize
     requires { ⌜ at + length (signed number) ≤ length (now out) ⌝ }
     ensures bytes { λ r. ⌜ now (out .exit) ≡ pasted at (signed number) (now (out .entry)) ⌝ }
     ensures end { λ r. ⌜ r ≡ at + length (signed number) ⌝ }

@@ -75,7 +75,7 @@ pub fn field_of_line<'n, 'v>(names: &'n [u8], values: &'v [u8], name: &[u8]) -> 
 
 // The byte at which that field starts, where the values line starts at byte `at` of the text; 0
 // where there is none.
-pub fn start_under(at: usize, names: &[u8], values: &[u8], name: &[u8]) -> usize
+pub(crate) fn start_under(at: usize, names: &[u8], values: &[u8], name: &[u8]) -> usize
     requires { ⌜ at + length (now values) < 2 ^ 63 ⌝ }
     ensures { λ r. ⌜ r ≡ start-under at (fields (now (names .entry))) (fields (now (values .entry))) (now (name .entry)) ⌝ }
 {

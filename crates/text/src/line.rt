@@ -145,7 +145,12 @@ fn check_line(names: &[u8], line: &[u8], day: usize, at: usize) -> Result<(), Li
 }
 
 // The total on the line of a day, which starts at byte `at` of the text.
-pub fn read_line<K: Total>(names: &[u8], line: &[u8], day: usize, at: usize) -> Result<K, LineFault>
+pub(crate) fn read_line<K: Total>(
+    names: &[u8],
+    line: &[u8],
+    day: usize,
+    at: usize,
+) -> Result<K, LineFault>
     requires { ⌜ at + length (now line) < 2 ^ 63 ⌝ ∗ ⌜ day < 2 ^ 63 ⌝ }
     ensures { λ r. ⌜ told (K·Total .columns) line-found r ≡ read-line (K·Total .kind) (fields (now (names .entry))) day at (fields (now (line .entry))) ⌝ }
 {

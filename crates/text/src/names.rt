@@ -32,7 +32,7 @@ fn known<K: Total>(name: &[u8]) -> bool
 }
 
 // That each name of the line is known and not repeated, or else the leftmost that is not so.
-pub fn check_names<K: Total>(names: &[u8]) -> Result<(), FieldFault>
+pub(crate) fn check_names<K: Total>(names: &[u8]) -> Result<(), FieldFault>
     requires { ⌜ length (now names) < 2 ^ 63 ⌝ }
     ensures { λ r. ⌜ r ≡ at-name (bad-name (trace-names (K·Total .kind)) (fields (now (names .entry))) 0 (fields (now (names .entry)))) ⌝ }
 {

@@ -53,7 +53,7 @@ fn put_field<S: Shown>(item: S, last: bool, out: &mut [u8], at: usize) -> usize
 }
 
 // Writes a line of these items, and answers the place behind it.
-pub fn put_line<S: Shown>(items: &[S], out: &mut [u8], at: usize) -> usize
+pub(crate) fn put_line<S: Shown>(items: &[S], out: &mut [u8], at: usize) -> usize
     requires { ⌜ at + length (line (S·Shown .bytes) (now items)) ≤ length (now out) ⌝ }
     ensures bytes { λ r. ⌜ now (out .exit) ≡ pasted at (line (S·Shown .bytes) (now (items .entry))) (now (out .entry)) ⌝ }
     ensures end { λ r. ⌜ r ≡ at + length (line (S·Shown .bytes) (now (items .entry))) ⌝ }

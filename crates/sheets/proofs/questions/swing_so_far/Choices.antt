@@ -3,8 +3,8 @@ use Rattle.transform.specs.Windows.{trace}
 use Rattle.transform.specs.Pulses.{summed}
 use Rattle.sheets.specs.Takes.{state-of}
 use Rattle.sheets.specs.Standing.{standing-trace}
-use Rattle.sheets.proofs.Asked.{step}
-use Rattle.sheets.proofs.questions.whole_swing.Given as given
+use Rattle.sheets.specs.Inside.{step}
+use Rattle.sheets.proofs.questions.swing_so_far.Given as given
 
 abbrev pub Inv-loop-day : given.InvT-loop-day
 Inv-loop-day g l =

@@ -1,0 +1,3 @@
+// Tests of sheets on worked records.
+#[cfg(test)]
+mod worked;
