@@ -1,4 +1,6 @@
 // Runs take over cents for a program in Rust, which compares what it lists and measures its time.
+#![tactic(auto)]
+
 mod lot;
 
 use kinds::{Cents, Total};

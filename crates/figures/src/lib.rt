@@ -1,4 +1,6 @@
 // What stands in a field: figures, and the names over columns.
+#![tactic(auto)]
+
 mod byte;
 mod figure;
 mod heading;

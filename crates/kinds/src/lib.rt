@@ -1,4 +1,6 @@
 // Kinds of total: the interface, and the kinds cents, pieces and pairs of one-column kinds.
+#![tactic(auto)]
+
 mod one_column;
 mod pair;
 mod total;

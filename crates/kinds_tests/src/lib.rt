@@ -1,4 +1,6 @@
 // Tests of the kinds at their edges.
+#![tactic(auto)]
+
 #[cfg(test)]
 mod pairs;
 #[cfg(test)]

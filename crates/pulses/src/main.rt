@@ -1,4 +1,6 @@
 // Reads a trace text on standard input and prints its pulses, or why it was refused.
+#![tactic(auto)]
+
 use anyhow::anyhow;
 use report::{MOST_REPORT_BYTES, report_on};
 use std::io::{Read, Write};

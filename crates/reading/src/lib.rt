@@ -1,4 +1,6 @@
 // Reading: fields, lines and trace texts.
+#![tactic(auto)]
+
 mod fields;
 mod line;
 mod names;

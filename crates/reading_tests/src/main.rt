@@ -2,6 +2,8 @@
 // the table has another answer. A row is `KIND ROOM|ANSWER|LABEL|TEXT`: a list of ROOM entries to read
 // into, and the answer as `NUMBER LINE BYTE`, or the days and their totals. Rows that begin with `#`
 // are comments. Then texts that nobody wrote, counted by answer.
+#![tactic(auto)]
+
 mod answers;
 mod coded;
 mod noise;

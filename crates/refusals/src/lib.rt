@@ -1,4 +1,6 @@
 // The one table of refusals, and what is wrong with a text.
+#![tactic(auto)]
+
 mod fault;
 mod refusal;
 

@@ -1,4 +1,6 @@
 // Runs the script on standard input.
+#![tactic(auto)]
+
 use scripts::run_script;
 use std::io::Read;
 

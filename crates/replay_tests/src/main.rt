@@ -1,4 +1,6 @@
 // Runs a table of scripts, on both kinds and both shelves, and prints each answer.
+#![tactic(auto)]
+
 use scripts::run_script;
 
 fn run_named(rt: &HostRuntime, name: &str, script: &[u8]) -> anyhow::Result<()> {

@@ -1,4 +1,6 @@
 // The report on a text: its record's pulses, or why it was refused, as a text again.
+#![tactic(auto)]
+
 mod report;
 mod sheet_text;
 mod worked;

@@ -1,5 +1,7 @@
 // Runs the scripts on standard input, each under a line that begins with `=`, and prints each answer;
 // then scripts that are too long for a table, or that end in an unended line.
+#![tactic(auto)]
+
 use scripts::run_script;
 use std::io::{Read, Write};
 

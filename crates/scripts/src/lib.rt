@@ -1,4 +1,6 @@
 // Scripts of calls and questions on one sheet, answered line by line.
+#![tactic(auto)]
+
 mod answers;
 mod lists;
 mod memory;

@@ -1,4 +1,6 @@
 // Sheets: the pulses of a record kept on a shelf, with the calls and the questions of a sheet.
+#![tactic(auto)]
+
 mod calls;
 mod marks;
 mod questions;

@@ -1,3 +1,5 @@
 // Tests of sheets on worked records.
+#![tactic(auto)]
+
 #[cfg(test)]
 mod worked;

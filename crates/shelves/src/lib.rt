@@ -1,4 +1,6 @@
 // Shelves: rows of pulses kept in slots, over lent rows or lent bytes.
+#![tactic(auto)]
+
 mod byte_shelf;
 mod laws;
 mod packing;

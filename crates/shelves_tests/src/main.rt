@@ -1,4 +1,6 @@
 // Runs one list of calls on shelves over rows and over bytes, and prints what each answers.
+#![tactic(auto)]
+
 #[cfg(test)]
 mod blanks;
 #[cfg(test)]

@@ -1,4 +1,6 @@
 // Splitting: a record split into its pulses by the run method, their rows put on a shelf.
+#![tactic(auto)]
+
 mod layout;
 mod levelling;
 mod limits;

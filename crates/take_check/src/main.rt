@@ -1,4 +1,6 @@
 // Runs take against the transform done window by window, in the plainest way, on a table of records.
+#![tactic(auto)]
+
 mod records;
 mod windows;
 

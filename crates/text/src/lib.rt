@@ -1,5 +1,7 @@
 // Texts: all that reads and writes them, under one name. Its parts are figures, reading, the writer of
 // texts and writing.
+#![tactic(auto)]
+
 pub use figures::{Heading, figures_agree, read_figure};
 pub use reading::{field, read_trace};
 pub use refusals::{

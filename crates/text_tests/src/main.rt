@@ -1,5 +1,7 @@
 // A table of texts, good and damaged, and what reading each answers: the days and the columns, or
 // the number, the line and the byte of the refusal. Then what the writer of texts writes.
+#![tactic(auto)]
+
 use kinds::{Cents, CentsUnit, Pair, Pieces, PiecesUnit, Total, Whole};
 use std::io;
 use text::{

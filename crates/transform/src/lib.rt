@@ -1,5 +1,7 @@
 // The transform by windows: its definition stands in specs/, and here are the theorems about it,
 // each on the contract of a function.
+#![tactic(auto)]
+
 mod examples;
 mod theory;
 

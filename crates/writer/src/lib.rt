@@ -1,4 +1,6 @@
 // The writer of texts, and what may stand in their lines.
+#![tactic(auto)]
+
 mod digits;
 mod value;
 mod writer;

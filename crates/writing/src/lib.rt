@@ -1,4 +1,6 @@
 // Writing: trace texts, pulse texts and the text of a refusal.
+#![tactic(auto)]
+
 mod pulse_text;
 mod record_text;
 

@@ -1,5 +1,7 @@
 // Records to write, and what writing each answers; then fields by name, and what the writer of texts
 // writes.
+#![tactic(auto)]
+
 mod records;
 
 use figures::read_figure;
