@@ -1,5 +1,5 @@
 // Whole numbers of one unit: cents and pieces.
-ghost use Rattle.std.specs.Prelude.{◌≡◌, ℕ, true};
+ghost use Rattle.std.specs.Prelude.{◌≡◌, ℕ, true, ⊤};
 ghost use Rattle.kinds.specs.Columns.{fits64};
 ghost use Rattle.kinds.specs.Kinds.{Name, cents, pieces, code};
 ghost use Rattle.kinds.specs.Wholes.{whole, Sound, cents_bound, pieces_bound};
@@ -7,6 +7,7 @@ ghost use Rattle.std.proofs.Common.{rules, arith};
 
 use crate::one_column::OneColumn;
 use crate::total::Total;
+use std::alloc::AllocError;
 use std::cmp::Ordering;
 
 // What is counted: the name of the column and its entry bound.
@@ -73,11 +74,21 @@ impl Unit for PiecesUnit {
 }
 
 // A whole number of one unit, of 64 bits.
-#[derive(Clone, Copy)]
+#[derive(Copy)]
 pub struct Whole<U> {
     value: i64,
     unit: U,
     ghost fits: { fits64 value ≡ true },
+}
+
+impl<U: Copy> Clone for Whole<U> {
+    ghost is_clone = { λ x y. y ≡ x };
+
+    ghost is_infallible = { λ _. ⊤ };
+
+    fn clone(&self) -> Result<Whole<U>, AllocError> {
+        Ok(*self)
+    }
 }
 
 pub type Cents = Whole<CentsUnit>;
