@@ -48,7 +48,8 @@ def declared(text, generated):
 
 
 def respelled(name):
-    parts = name.replace("′", "'").split("-")
+    name = name.replace("′", "'")
+    parts = re.split("[-_]" if name[0].isupper() else "-", name)
     if name[0].isupper() and len(parts[0]) > 1:
         return "".join(p[:1].upper() + p[1:] for p in parts)
     name = "_".join(parts)

@@ -50,5 +50,5 @@ Lead K [] s t w v = (t ≡ s) × (v ≡ w)
 Lead {W = W} K (c ∷ h) s t w v = (m : State) × (u : List W) × Lead K h s m w u × Leaves K c m t u v
 
 -- what performing one more call does after a list of calls
-abbrev pub Goes_on : {W : Type 0} (K : Kind) → Call K → State → State → List W → List W → Type 0
-Goes_on K c s t w v = (h : Calls K) → Shows K h s → Promise K (c ∷ h) t × Leaves K c s t w v
+abbrev pub GoesOn : {W : Type 0} (K : Kind) → Call K → State → State → List W → List W → Type 0
+GoesOn K c s t w v = (h : Calls K) → Shows K h s → Promise K (c ∷ h) t × Leaves K c s t w v

@@ -3,7 +3,7 @@ ghost use Rattle.std.specs.Prelude.{◌≡◌, min, map, length, take as front, 
 ghost use Rattle.sheets.specs.Takes.{opened, state_of};
 ghost use Rattle.sheets.specs.Calls.{taking};
 ghost use Rattle.sheets.specs.Promise.{Promise};
-ghost use Rattle.histories.specs.Steps.{call_of, calls_of, Goes_on, Lead};
+ghost use Rattle.histories.specs.Steps.{call_of, calls_of, GoesOn, Lead};
 
 use kinds::Total;
 use sheets::Sheet;
@@ -59,7 +59,7 @@ fn take_part<K: Total, S: Shelf<K>>(
     days: usize,
     entries: usize,
 )
-    ensures { Goes_on kind (taking (front days (behind skipped (map columns totals.now))) (min entries (length work.old))) (state_of slots outside sheet.old) (state_of slots outside sheet.new) work.old work.new }
+    ensures { GoesOn K.kind (taking (front days (behind skipped (map K.columns totals.now))) (min entries (length work.old))) (state_of S.slots S.outside sheet.old) (state_of S.slots S.outside sheet.new) work.old work.new }
 {
     let record = part(totals, skipped, days);
     if entries < work.len() {
@@ -76,7 +76,7 @@ fn perform<K: Total, S: Shelf<K>>(
     totals: &[K],
     work: &mut [WorkEntry<K>],
 )
-    ensures { Goes_on kind (call_of kind (map columns totals.now) (length work.old) step) (state_of slots outside sheet.old) (state_of slots outside sheet.new) work.old work.new }
+    ensures { GoesOn K.kind (call_of K.kind (map K.columns totals.now) (length work.old) step) (state_of S.slots S.outside sheet.old) (state_of S.slots S.outside sheet.new) work.old work.new }
 {
     match step {
         Step::Take {
@@ -106,8 +106,8 @@ fn performed<K: Total, S: Shelf<K>>(
     totals: &[K],
     work: &mut [WorkEntry<K>],
 ) -> Sheet<K, S>
-    ensures led { Lead kind (calls_of kind (map columns totals.now) (length work.old) steps.now) (opened (slots shelf) (outside shelf)) (state_of slots outside result) work.old work.new }
-    ensures promise { Promise kind (calls_of kind (map columns totals.now) (length work.old) steps.now) (state_of slots outside result) }
+    ensures led { Lead K.kind (calls_of K.kind (map K.columns totals.now) (length work.old) steps.now) (opened (S.slots shelf) (S.outside shelf)) (state_of S.slots S.outside result) work.old work.new }
+    ensures promise { Promise K.kind (calls_of K.kind (map K.columns totals.now) (length work.old) steps.now) (state_of S.slots S.outside result) }
 {
     let mut sheet = Sheet::new(shelf);
     for step in steps {
@@ -124,8 +124,8 @@ pub fn sheet_after<K: Total, S: Shelf<K>>(
     totals: &[K],
     work: &mut [WorkEntry<K>],
 ) -> Sheet<K, S>
-    ensures led { Lead kind (calls_of kind (map columns totals.now) (length work.old) steps.now) (opened (slots shelf) (outside shelf)) (state_of slots outside result) work.old work.new }
-    ensures promise { Promise kind (calls_of kind (map columns totals.now) (length work.old) steps.now) (state_of slots outside result) }
+    ensures led { Lead K.kind (calls_of K.kind (map K.columns totals.now) (length work.old) steps.now) (opened (S.slots shelf) (S.outside shelf)) (state_of S.slots S.outside result) work.old work.new }
+    ensures promise { Promise K.kind (calls_of K.kind (map K.columns totals.now) (length work.old) steps.now) (state_of S.slots S.outside result) }
 {
     performed(shelf, steps, totals, work)
 }

@@ -126,7 +126,7 @@ fn report_with<K: Total>(
     requires totals { length totals.old ≡ 1000 }
     requires work { 1002 ≤ length work.old }
     requires rows { 1000 ≤ length rows.old }
-    ensures { Reported (report_as kind text.now) out.old out.new result }
+    ensures { Reported (report_as K.kind text.now) out.old out.new result }
 {
     let pulses = pulses_of(text, totals, work, rows, out);
     tell(pulses, out)
@@ -143,7 +143,7 @@ fn pulses_of<K: Total>(
     requires totals { length totals.old ≡ 1000 }
     requires work { 1002 ≤ length work.old }
     requires rows { 1000 ≤ length rows.old }
-    ensures { PulsesWritten kind text.now out.old out.new result }
+    ensures { PulsesWritten K.kind text.now out.old out.new result }
 {
     let days = read_trace(text, totals)?;
     let mut sheet: Sheet<K, RowShelf<K>> = Sheet::new(<RowShelf<'_, _> as OverRows<'_, _>>::over(
@@ -161,9 +161,9 @@ fn split_and_write<K: Total, S: Shelf<K>>(
     out: &mut [u8],
 ) -> Result<usize, FileFault>
     requires within { days ≤ length totals.now }
-    requires begun { Shows kind [] (state_of slots outside sheet.old) }
-    requires accepted { Accepted kind (map columns (take days totals.now)) (length work.old) (length (state_of slots outside sheet.old).slots) }
-    ensures { TextDue (pulse_text kind (λ p. false) (pulses kind (map columns (take days totals.now)))) out.old out.new result }
+    requires begun { Shows K.kind [] (state_of S.slots S.outside sheet.old) }
+    requires accepted { Accepted K.kind (map K.columns (take days totals.now)) (length work.old) (length (state_of S.slots S.outside sheet.old).slots) }
+    ensures { TextDue (pulse_text K.kind (λ p. false) (pulses K.kind (map K.columns (take days totals.now)))) out.old out.new result }
 {
     in_taking(take_front(sheet, totals, days, work))?;
     let bytes = in_writing(write_sheet(&*sheet, out))?;
@@ -178,7 +178,7 @@ fn take_front<K: Total, S: Shelf<K>>(
     work: &mut [WorkEntry<K>],
 ) -> Result<usize, Refusal>
     requires { days ≤ length totals.now }
-    ensures { RecordTaken kind (map columns (take days totals.now)) (length work.old) (state_of slots outside sheet.old) (state_of slots outside sheet.new) result }
+    ensures { RecordTaken K.kind (map K.columns (take days totals.now)) (length work.old) (state_of S.slots S.outside sheet.old) (state_of S.slots S.outside sheet.new) result }
 {
     match sheet.take(&totals[0..days], work) {
         Ok(pulses) => Ok(pulses),
@@ -188,8 +188,8 @@ fn take_front<K: Total, S: Shelf<K>>(
 
 // Writes the pulse text of a sheet that some calls lead to.
 fn write_sheet<K: Total, S: Shelf<K>>(sheet: &Sheet<K, S>, out: &mut [u8]) -> Result<usize, Refusal>
-    requires { (h : Calls kind) × Shows kind h (state_of slots outside sheet.now) }
-    ensures { Reported (sheet_text kind (state_of slots outside sheet.now)) out.old out.new result }
+    requires { (h : Calls K.kind) × Shows K.kind h (state_of S.slots S.outside sheet.now) }
+    ensures { Reported (sheet_text K.kind (state_of S.slots S.outside sheet.now)) out.old out.new result }
 {
     match write_pulses(sheet, out) {
         Ok(bytes) => Ok(bytes),

@@ -18,23 +18,23 @@ pub fn write_pulses<K: Total, S: Shelf<K>>(
     sheet: &Sheet<K, S>,
     out: &mut [u8],
 ) -> Result<usize, Stop>
-    ensures answer { TextWritten kind (state_of slots outside sheet.now) out.old out.new result }
-    ensures history { TextTold kind (state_of slots outside sheet.now) result }
+    ensures answer { TextWritten K.kind (state_of S.slots S.outside sheet.now) out.old out.new result }
+    ensures history { TextTold K.kind (state_of S.slots S.outside sheet.now) result }
 {
     tell_pulses(sheet, out)
 }
 
 // The same, with what the text is to the history of the sheet.
 fn tell_pulses<K: Total, S: Shelf<K>>(sheet: &Sheet<K, S>, out: &mut [u8]) -> Result<usize, Stop>
-    ensures answer { TextWritten kind (state_of slots outside sheet.now) out.old out.new result }
-    ensures history { TextTold kind (state_of slots outside sheet.now) result }
+    ensures answer { TextWritten K.kind (state_of S.slots S.outside sheet.now) out.old out.new result }
+    ensures history { TextTold K.kind (state_of S.slots S.outside sheet.now) result }
 {
     write_text(sheet, out)
 }
 
 // The room is tested first, so that the lines that follow cannot fail.
 fn write_text<K: Total, S: Shelf<K>>(sheet: &Sheet<K, S>, out: &mut [u8]) -> Result<usize, Stop>
-    ensures { TextWritten kind (state_of slots outside sheet.now) out.old out.new result }
+    ensures { TextWritten K.kind (state_of S.slots S.outside sheet.now) out.old out.new result }
 {
     match room_behind_text(sheet, out.len()) {
         Ok(_) => write_whole(sheet, out),
@@ -44,8 +44,8 @@ fn write_text<K: Total, S: Shelf<K>>(sheet: &Sheet<K, S>, out: &mut [u8]) -> Res
 
 // Writes the text into a buffer that has room.
 fn write_whole<K: Total, S: Shelf<K>>(sheet: &Sheet<K, S>, out: &mut [u8]) -> Result<usize, Stop>
-    requires { length (sheet_text kind (state_of slots outside sheet.now)) ≤ length out.old }
-    ensures { PartWritten kind (state_of slots outside sheet.now) 0 (sheet_text kind (state_of slots outside sheet.now)) out.old out.new result }
+    requires { length (sheet_text K.kind (state_of S.slots S.outside sheet.now)) ≤ length out.old }
+    ensures { PartWritten K.kind (state_of S.slots S.outside sheet.now) 0 (sheet_text K.kind (state_of S.slots S.outside sheet.now)) out.old out.new result }
 {
     match write_pulse_names::<K>(Naming::begin(), out) {
         Ok(text) => match write_lines(sheet, text, out) {
@@ -58,7 +58,7 @@ fn write_whole<K: Total, S: Shelf<K>>(sheet: &Sheet<K, S>, out: &mut [u8]) -> Re
 
 // What is left of so many bytes behind the pulse text of a sheet.
 fn room_behind_text<K: Total, S: Shelf<K>>(sheet: &Sheet<K, S>, room: usize) -> Result<usize, Stop>
-    ensures { RoomLeft kind (state_of slots outside sheet.now) (length (sheet_text kind (state_of slots outside sheet.now))) room result }
+    ensures { RoomLeft K.kind (state_of S.slots S.outside sheet.now) (length (sheet_text K.kind (state_of S.slots S.outside sheet.now))) room result }
 {
     match room_behind_pulse_names::<K>(room) {
         Some(left) => room_behind_lines(sheet, left),
@@ -68,7 +68,7 @@ fn room_behind_text<K: Total, S: Shelf<K>>(sheet: &Sheet<K, S>, room: usize) -> 
 
 // The same behind the lines of its pulses.
 fn room_behind_lines<K: Total, S: Shelf<K>>(sheet: &Sheet<K, S>, room: usize) -> Result<usize, Stop>
-    ensures { RoomLeft kind (state_of slots outside sheet.now) (length (row_lines kind (state_of slots outside sheet.now).count (state_of slots outside sheet.now).slots)) room result }
+    ensures { RoomLeft K.kind (state_of S.slots S.outside sheet.now) (length (row_lines K.kind (state_of S.slots S.outside sheet.now).count (state_of S.slots S.outside sheet.now).slots)) room result }
 {
     let count = sheet.pulses();
     let mut left = room;
@@ -87,8 +87,8 @@ fn room_behind_line<K: Total, S: Shelf<K>>(
     number: usize,
     room: usize,
 ) -> Result<usize, Stop>
-    requires { (1 ≤ number) × (number ≤ (state_of slots outside sheet.now).count) }
-    ensures { RoomLeft kind (state_of slots outside sheet.now) (length (slot_line kind (state_of slots outside sheet.now).slots number)) room result }
+    requires { (1 ≤ number) × (number ≤ (state_of S.slots S.outside sheet.now).count) }
+    ensures { RoomLeft K.kind (state_of S.slots S.outside sheet.now) (length (slot_line K.kind (state_of S.slots S.outside sheet.now).slots number)) room result }
 {
     match sheet.pulse(number) {
         Ok(pulse) => {
@@ -109,8 +109,8 @@ fn write_lines<K: Total, S: Shelf<K>>(
     named: Lines,
     out: &mut [u8],
 ) -> Result<Lines, Stop>
-    requires { named.at + length (row_lines kind (state_of slots outside sheet.now).count (state_of slots outside sheet.now).slots) ≤ length out.old }
-    ensures { PartWritten kind (state_of slots outside sheet.now) named.at (row_lines kind (state_of slots outside sheet.now).count (state_of slots outside sheet.now).slots) out.old out.new (told (λ t. t.at) (λ e. e) result) }
+    requires { named.at + length (row_lines K.kind (state_of S.slots S.outside sheet.now).count (state_of S.slots S.outside sheet.now).slots) ≤ length out.old }
+    ensures { PartWritten K.kind (state_of S.slots S.outside sheet.now) named.at (row_lines K.kind (state_of S.slots S.outside sheet.now).count (state_of S.slots S.outside sheet.now).slots) out.old out.new (told (λ t. t.at) (λ e. e) result) }
 {
     let count = sheet.pulses();
     let mut text = named;
@@ -130,8 +130,8 @@ fn write_line<K: Total, S: Shelf<K>>(
     text: Lines,
     out: &mut [u8],
 ) -> Result<Lines, Stop>
-    requires { (1 ≤ number) × ((number ≤ (state_of slots outside sheet.now).count) × (text.at + length (slot_line kind (state_of slots outside sheet.now).slots number) ≤ length out.old)) }
-    ensures { PartWritten kind (state_of slots outside sheet.now) text.at (slot_line kind (state_of slots outside sheet.now).slots number) out.old out.new (told (λ t. t.at) (λ e. e) result) }
+    requires { (1 ≤ number) × ((number ≤ (state_of S.slots S.outside sheet.now).count) × (text.at + length (slot_line K.kind (state_of S.slots S.outside sheet.now).slots number) ≤ length out.old)) }
+    ensures { PartWritten K.kind (state_of S.slots S.outside sheet.now) text.at (slot_line K.kind (state_of S.slots S.outside sheet.now).slots number) out.old out.new (told (λ t. t.at) (λ e. e) result) }
 {
     match sheet.pulse(number) {
         Ok(pulse) => {

@@ -19,8 +19,8 @@ impl<K: Total, S: Shelf<K>> Sheet<K, S> {
     // A sheet of the empty record, with no pulses. The slots are left alone.
     pub fn new(shelf: S) -> Sheet<K, S>
         ensures shelf { result.shelf ≡ shelf }
-        ensures answer { state_of slots outside result ≡ opened (slots shelf) (outside shelf) }
-        ensures history { Promise kind [] (state_of slots outside result) }
+        ensures answer { state_of S.slots S.outside result ≡ opened (S.slots shelf) (S.outside shelf) }
+        ensures history { Promise K.kind [] (state_of S.slots S.outside result) }
     {
         begun(shelf)
     }
@@ -28,8 +28,8 @@ impl<K: Total, S: Shelf<K>> Sheet<K, S> {
     // Splits a record into its pulses and puts their rows, each marked in. What the sheet had is
     // replaced. Answers the number of pulses.
     pub fn take(&mut self, totals: &[K], work: &mut [WorkEntry<K>]) -> Result<usize, Stop>
-        ensures answer { Take kind (map columns totals.now) (length work.old) (state_of slots outside self.old) (state_of slots outside self.new) self.old self.new work.old work.new result }
-        ensures history { Continues kind (taking (map columns totals.now) (length work.old)) (state_of slots outside self.old) (state_of slots outside self.new) result }
+        ensures answer { Take K.kind (map K.columns totals.now) (length work.old) (state_of S.slots S.outside self.old) (state_of S.slots S.outside self.new) self.old self.new work.old work.new result }
+        ensures history { Continues K.kind (taking (map K.columns totals.now) (length work.old)) (state_of S.slots S.outside self.old) (state_of S.slots S.outside self.new) result }
     {
         take_on(self, totals, work)
     }
@@ -37,32 +37,32 @@ impl<K: Total, S: Shelf<K>> Sheet<K, S> {
     // Marks out every pulse of a width from the lowest to the highest. Answers how many marks
     // changed.
     pub fn remove(&mut self, lowest: usize, highest: usize) -> Result<usize, Stop>
-        ensures answer { Marking kind (removing lowest highest) (state_of slots outside self.old) (state_of slots outside self.new) self.old self.new result }
-        ensures history { Continues kind (removing lowest highest) (state_of slots outside self.old) (state_of slots outside self.new) result }
+        ensures answer { Marking K.kind (removing lowest highest) (state_of S.slots S.outside self.old) (state_of S.slots S.outside self.new) self.old self.new result }
+        ensures history { Continues K.kind (removing lowest highest) (state_of S.slots S.outside self.old) (state_of S.slots S.outside self.new) result }
     {
         mark_range(self, Mark::Out, lowest, highest)
     }
 
     // Marks in every pulse of a width from the lowest to the highest. Answers how many marks changed.
     pub fn restore(&mut self, lowest: usize, highest: usize) -> Result<usize, Stop>
-        ensures answer { Marking kind (restoring lowest highest) (state_of slots outside self.old) (state_of slots outside self.new) self.old self.new result }
-        ensures history { Continues kind (restoring lowest highest) (state_of slots outside self.old) (state_of slots outside self.new) result }
+        ensures answer { Marking K.kind (restoring lowest highest) (state_of S.slots S.outside self.old) (state_of S.slots S.outside self.new) self.old self.new result }
+        ensures history { Continues K.kind (restoring lowest highest) (state_of S.slots S.outside self.old) (state_of S.slots S.outside self.new) result }
     {
         mark_range(self, Mark::In, lowest, highest)
     }
 
     // Marks out the pulse of a number. Answers how many marks changed.
     pub fn remove_one(&mut self, number: usize) -> Result<usize, Stop>
-        ensures answer { Marking kind (removing_one number) (state_of slots outside self.old) (state_of slots outside self.new) self.old self.new result }
-        ensures history { Continues kind (removing_one number) (state_of slots outside self.old) (state_of slots outside self.new) result }
+        ensures answer { Marking K.kind (removing_one number) (state_of S.slots S.outside self.old) (state_of S.slots S.outside self.new) self.old self.new result }
+        ensures history { Continues K.kind (removing_one number) (state_of S.slots S.outside self.old) (state_of S.slots S.outside self.new) result }
     {
         mark_one(self, Mark::Out, number)
     }
 
     // Marks in the pulse of a number. Answers how many marks changed.
     pub fn restore_one(&mut self, number: usize) -> Result<usize, Stop>
-        ensures answer { Marking kind (restoring_one number) (state_of slots outside self.old) (state_of slots outside self.new) self.old self.new result }
-        ensures history { Continues kind (restoring_one number) (state_of slots outside self.old) (state_of slots outside self.new) result }
+        ensures answer { Marking K.kind (restoring_one number) (state_of S.slots S.outside self.old) (state_of S.slots S.outside self.new) self.old self.new result }
+        ensures history { Continues K.kind (restoring_one number) (state_of S.slots S.outside self.old) (state_of S.slots S.outside self.new) result }
     {
         mark_one(self, Mark::In, number)
     }
@@ -71,8 +71,8 @@ impl<K: Total, S: Shelf<K>> Sheet<K, S> {
 // A sheet of the empty record begins a history.
 fn begun<K: Total, S: Shelf<K>>(shelf: S) -> Sheet<K, S>
     ensures shelf { result.shelf ≡ shelf }
-    ensures answer { state_of slots outside result ≡ opened (slots shelf) (outside shelf) }
-    ensures history { Promise kind [] (state_of slots outside result) }
+    ensures answer { state_of S.slots S.outside result ≡ opened (S.slots shelf) (S.outside shelf) }
+    ensures history { Promise K.kind [] (state_of S.slots S.outside result) }
 {
     blank(shelf)
 }
@@ -80,7 +80,7 @@ fn begun<K: Total, S: Shelf<K>>(shelf: S) -> Sheet<K, S>
 // A sheet of the empty record.
 fn blank<K: Total, S: Shelf<K>>(shelf: S) -> Sheet<K, S>
     ensures shelf { result.shelf ≡ shelf }
-    ensures answer { state_of slots outside result ≡ opened (slots shelf) (outside shelf) }
+    ensures answer { state_of S.slots S.outside result ≡ opened (S.slots shelf) (S.outside shelf) }
 {
     Sheet {
         shelf,
@@ -96,8 +96,8 @@ fn take_on<K: Total, S: Shelf<K>>(
     totals: &[K],
     work: &mut [WorkEntry<K>],
 ) -> Result<usize, Stop>
-    ensures answer { Take kind (map columns totals.now) (length work.old) (state_of slots outside sheet.old) (state_of slots outside sheet.new) sheet.old sheet.new work.old work.new result }
-    ensures history { Continues kind (taking (map columns totals.now) (length work.old)) (state_of slots outside sheet.old) (state_of slots outside sheet.new) result }
+    ensures answer { Take K.kind (map K.columns totals.now) (length work.old) (state_of S.slots S.outside sheet.old) (state_of S.slots S.outside sheet.new) sheet.old sheet.new work.old work.new result }
+    ensures history { Continues K.kind (taking (map K.columns totals.now) (length work.old)) (state_of S.slots S.outside sheet.old) (state_of S.slots S.outside sheet.new) result }
 {
     sheet.take_record(totals, work)
 }
@@ -109,8 +109,8 @@ fn mark_range<K: Total, S: Shelf<K>>(
     low: usize,
     high: usize,
 ) -> Result<usize, Stop>
-    ensures answer { Marking kind (marking mark low high) (state_of slots outside sheet.old) (state_of slots outside sheet.new) sheet.old sheet.new result }
-    ensures history { Continues kind (marking mark low high) (state_of slots outside sheet.old) (state_of slots outside sheet.new) result }
+    ensures answer { Marking K.kind (marking mark low high) (state_of S.slots S.outside sheet.old) (state_of S.slots S.outside sheet.new) sheet.old sheet.new result }
+    ensures history { Continues K.kind (marking mark low high) (state_of S.slots S.outside sheet.old) (state_of S.slots S.outside sheet.new) result }
 {
     change_range(sheet, mark, low, high)
 }
@@ -121,8 +121,8 @@ fn mark_one<K: Total, S: Shelf<K>>(
     mark: Mark,
     number: usize,
 ) -> Result<usize, Stop>
-    ensures answer { Marking kind (marking_one mark number) (state_of slots outside sheet.old) (state_of slots outside sheet.new) sheet.old sheet.new result }
-    ensures history { Continues kind (marking_one mark number) (state_of slots outside sheet.old) (state_of slots outside sheet.new) result }
+    ensures answer { Marking K.kind (marking_one mark number) (state_of S.slots S.outside sheet.old) (state_of S.slots S.outside sheet.new) sheet.old sheet.new result }
+    ensures history { Continues K.kind (marking_one mark number) (state_of S.slots S.outside sheet.old) (state_of S.slots S.outside sheet.new) result }
 {
     change_one(sheet, mark, number)
 }
@@ -134,7 +134,7 @@ fn change_range<K: Total, S: Shelf<K>>(
     low: usize,
     high: usize,
 ) -> Result<usize, Stop>
-    ensures { Marking kind (marking mark low high) (state_of slots outside sheet.old) (state_of slots outside sheet.new) sheet.old sheet.new result }
+    ensures { Marking K.kind (marking mark low high) (state_of S.slots S.outside sheet.old) (state_of S.slots S.outside sheet.new) sheet.old sheet.new result }
 {
     if low == 0 || low > high || high > WIDEST {
         return Err(Stop::Refused(Refusal::WidthsOutOfRange));
@@ -148,7 +148,7 @@ fn change_one<K: Total, S: Shelf<K>>(
     mark: Mark,
     number: usize,
 ) -> Result<usize, Stop>
-    ensures { Marking kind (marking_one mark number) (state_of slots outside sheet.old) (state_of slots outside sheet.new) sheet.old sheet.new result }
+    ensures { Marking K.kind (marking_one mark number) (state_of S.slots S.outside sheet.old) (state_of S.slots S.outside sheet.new) sheet.old sheet.new result }
 {
     if number == 0 || number > sheet.pulses {
         return Err(Stop::Refused(Refusal::NoSuchPulse));

@@ -10,7 +10,7 @@ use shelves::{Mark, Row, Shelf};
 
 // The row in a slot. A slot without one is a state that no list of calls leads to.
 pub(crate) fn held_row<K: Total, S: Shelf<K>>(shelf: &S, slot: usize) -> Result<Row<K>, Stop>
-    ensures { RowHeld kind columns (slots shelf.now) slot result }
+    ensures { RowHeld K.kind K.columns (S.slots shelf.now) slot result }
 {
     match shelf.read(slot) {
         Ok(Some(row)) => Ok(row),
@@ -21,10 +21,10 @@ pub(crate) fn held_row<K: Total, S: Shelf<K>>(shelf: &S, slot: usize) -> Result<
 
 // Marks the row in a slot, unless it has that mark. Answers how many marks changed.
 fn mark_row<K: Total, S: Shelf<K>>(shelf: &mut S, slot: usize, row: Row<K>, mark: Mark) -> usize
-    requires { (slot < length (slots shelf.old)) × ((row.mark ≤ 1) × (slice_index_or (slots shelf.old) slot None ≡ shown kind columns row)) }
+    requires { (slot < length (S.slots shelf.old)) × ((row.mark ≤ 1) × (slice_index_or (S.slots shelf.old) slot None ≡ shown K.kind K.columns row)) }
     ensures answer { result ≡ (if nat_eq row.mark (mark-number mark) then 0 else 1) }
-    ensures slots { slots shelf.new ≡ slice_set (slots shelf.old) slot (slot_of row.first row.width (mark-number mark) (listed kind.arity (columns row.amount))) }
-    ensures outside { outside shelf.new ≡ outside shelf.old }
+    ensures slots { S.slots shelf.new ≡ slice_set (S.slots shelf.old) slot (slot_of row.first row.width (mark-number mark) (listed K.kind.arity (K.columns row.amount))) }
+    ensures outside { S.outside shelf.new ≡ S.outside shelf.old }
 {
     if row.mark == mark.number() {
         return 0;
@@ -47,8 +47,8 @@ fn mark_within<K: Total, S: Shelf<K>>(
     low: usize,
     high: usize,
 ) -> Result<usize, Stop>
-    ensures slots { SlotMarked kind (marking mark low high) slot (slots shelf.old) (slots shelf.new) result }
-    ensures outside { outside shelf.new ≡ outside shelf.old }
+    ensures slots { SlotMarked K.kind (marking mark low high) slot (S.slots shelf.old) (S.slots shelf.new) result }
+    ensures outside { S.outside shelf.new ≡ S.outside shelf.old }
 {
     let row = held_row(shelf, slot)?;
     let width = row.width as usize;
@@ -61,8 +61,8 @@ fn mark_within<K: Total, S: Shelf<K>>(
 
 // Marks the row in a slot. Answers how many marks changed.
 fn mark_slot<K: Total, S: Shelf<K>>(shelf: &mut S, slot: usize, mark: Mark) -> Result<usize, Stop>
-    ensures slots { SlotMarked kind (marking_one mark (suc slot)) slot (slots shelf.old) (slots shelf.new) result }
-    ensures outside { outside shelf.new ≡ outside shelf.old }
+    ensures slots { SlotMarked K.kind (marking_one mark (suc slot)) slot (S.slots shelf.old) (S.slots shelf.new) result }
+    ensures outside { S.outside shelf.new ≡ S.outside shelf.old }
 {
     let row = held_row(shelf, slot)?;
     Ok(mark_row(shelf, slot, row, mark))
@@ -76,8 +76,8 @@ pub(crate) fn mark_number<K: Total, S: Shelf<K>>(
     number: usize,
 ) -> Result<usize, Stop>
     requires { (1 ≤ number) × (number ≤ count) }
-    ensures slots { SlotsMarked kind (marking_one mark number) count (slots shelf.old) (slots shelf.new) result }
-    ensures outside { outside shelf.new ≡ outside shelf.old }
+    ensures slots { SlotsMarked K.kind (marking_one mark number) count (S.slots shelf.old) (S.slots shelf.new) result }
+    ensures outside { S.outside shelf.new ≡ S.outside shelf.old }
 {
     mark_slot(shelf, number - 1, mark)
 }
@@ -90,8 +90,8 @@ pub(crate) fn mark_widths<K: Total, S: Shelf<K>>(
     low: usize,
     high: usize,
 ) -> Result<usize, Stop>
-    ensures slots { SlotsMarked kind (marking mark low high) count (slots shelf.old) (slots shelf.new) result }
-    ensures outside { outside shelf.new ≡ outside shelf.old }
+    ensures slots { SlotsMarked K.kind (marking mark low high) count (S.slots shelf.old) (S.slots shelf.new) result }
+    ensures outside { S.outside shelf.new ≡ S.outside shelf.old }
 {
     let mut changed = 0;
     for slot in 0..count {

@@ -26,21 +26,21 @@ pub struct ListedPulse<K> {
 impl<K: Total, S: Shelf<K>> Sheet<K, S> {
     // The number of days of the record held.
     pub fn days(&self) -> usize
-        ensures { result ≡ (state_of slots outside self.now).days }
+        ensures { result ≡ (state_of S.slots S.outside self.now).days }
     {
         self.days
     }
 
     // The number of pulses.
     pub fn pulses(&self) -> usize
-        ensures { result ≡ (state_of slots outside self.now).count }
+        ensures { result ≡ (state_of S.slots S.outside self.now).count }
     {
         self.pulses
     }
 
     // The pulse of a number: its stretch, mark and amount.
     pub fn pulse(&self, number: usize) -> Result<ListedPulse<K>, Stop>
-        ensures { Listed kind columns (state_of slots outside self.now) number result }
+        ensures { Listed K.kind K.columns (state_of S.slots S.outside self.now) number result }
     {
         if number == 0 || number > self.pulses {
             return Err(Stop::Refused(Refusal::NoSuchPulse));
@@ -50,7 +50,7 @@ impl<K: Total, S: Shelf<K>> Sheet<K, S> {
 
     // The standing total of a day: the sum of the pulses marked in that cover it.
     pub fn standing(&self, day: usize) -> Result<K, Stop>
-        ensures { StandingTotal kind columns (state_of slots outside self.now) day result }
+        ensures { StandingTotal K.kind K.columns (state_of S.slots S.outside self.now) day result }
     {
         if day == 0 || day > self.days {
             return Err(Stop::Refused(Refusal::NoSuchDay));
@@ -60,7 +60,7 @@ impl<K: Total, S: Shelf<K>> Sheet<K, S> {
 
     // Writes the standing trace into the first entries of a list. Answers the number of days.
     pub fn trace(&self, totals: &mut [K]) -> Result<usize, Stop>
-        ensures { Traced kind columns (state_of slots outside self.now) totals.old totals.new result }
+        ensures { Traced K.kind K.columns (state_of S.slots S.outside self.now) totals.old totals.new result }
     {
         if totals.len() < self.days {
             return Err(Stop::Refused(Refusal::ListTooShort));
@@ -70,7 +70,7 @@ impl<K: Total, S: Shelf<K>> Sheet<K, S> {
 
     // The swing of the standing trace.
     pub fn swing(&self) -> Result<K, Stop>
-        ensures { ComesOut kind columns (state_of slots outside self.now) (standing_swing kind (state_of slots outside self.now)) result }
+        ensures { ComesOut K.kind K.columns (state_of S.slots S.outside self.now) (standing_swing K.kind (state_of S.slots S.outside self.now)) result }
     {
         match swing_so_far(self) {
             Ok(so_far) => with_last_step(self, so_far),
@@ -81,7 +81,7 @@ impl<K: Total, S: Shelf<K>> Sheet<K, S> {
 
 // What stands on a day.
 fn day_total<K: Total, S: Shelf<K>>(sheet: &Sheet<K, S>, day: usize) -> Result<K, Stop>
-    ensures { ComesOut kind columns (state_of slots outside sheet.now) (standing_total kind (state_of slots outside sheet.now) day) result }
+    ensures { ComesOut K.kind K.columns (state_of S.slots S.outside sheet.now) (standing_total K.kind (state_of S.slots S.outside sheet.now) day) result }
 {
     standing_on(&sheet.shelf, sheet.pulses, day)
 }
@@ -92,7 +92,7 @@ fn listed_pulse<K: Total, S: Shelf<K>>(
     number: usize,
 ) -> Result<ListedPulse<K>, Stop>
     requires { (1 ≤ number) × (number ≤ sheet.now.pulses) }
-    ensures { Listed kind columns (state_of slots outside sheet.now) number result }
+    ensures { Listed K.kind K.columns (state_of S.slots S.outside sheet.now) number result }
 {
     match held_row(&sheet.shelf, number - 1) {
         Ok(row) => match pulse_of(row) {
@@ -106,7 +106,7 @@ fn listed_pulse<K: Total, S: Shelf<K>>(
 // The pulse of a row, or nothing where its numbers make no stretch.
 fn pulse_of<K: Total>(row: Row<K>) -> Option<ListedPulse<K>>
     requires { row.mark ≤ 1 }
-    ensures { PulseOfRow kind columns row result }
+    ensures { PulseOfRow K.kind K.columns row result }
 {
     let Some(stretch) = row.stretch() else {
         return None;
@@ -124,7 +124,7 @@ fn pulse_of<K: Total>(row: Row<K>) -> Option<ListedPulse<K>>
 // Writes the standing trace into a list that has room.
 fn write_trace<K: Total, S: Shelf<K>>(sheet: &Sheet<K, S>, totals: &mut [K]) -> Result<usize, Stop>
     requires { sheet.now.days ≤ length totals.old }
-    ensures { Traced kind columns (state_of slots outside sheet.now) totals.old totals.new result }
+    ensures { Traced K.kind K.columns (state_of S.slots S.outside sheet.now) totals.old totals.new result }
 {
     for day in 0..sheet.days {
         match day_total(sheet, day + 1) {
@@ -137,7 +137,7 @@ fn write_trace<K: Total, S: Shelf<K>>(sheet: &Sheet<K, S>, totals: &mut [K]) -> 
 
 // An amount, or its negation if it is below zero.
 fn size_of<K: Total>(amount: K) -> Option<K>
-    ensures { Gives kind columns (size kind (columns amount)) result }
+    ensures { Gives K.kind K.columns (size K.kind (K.columns amount)) result }
 {
     match amount.compare(K::zero()) {
         Ordering::Less => K::zero().difference(amount),
@@ -148,7 +148,7 @@ fn size_of<K: Total>(amount: K) -> Option<K>
 
 // The sum with the size of a step from one total to the next.
 fn with_step<K: Total>(sum: K, from: K, to: K) -> Result<K, Stop>
-    ensures { Steps kind columns (columns sum) (columns from) (columns to) result }
+    ensures { Steps K.kind K.columns (K.columns sum) (K.columns from) (K.columns to) result }
 {
     let Some(step) = to.difference(from) else {
         return Err(Stop::Unreachable);
@@ -171,7 +171,7 @@ struct SoFar<K> {
 
 // The sum of the sizes of the steps from the zero before day 1 to the last day.
 fn swing_so_far<K: Total, S: Shelf<K>>(sheet: &Sheet<K, S>) -> Result<SoFar<K>, Stop>
-    ensures { SwingsSoFar kind columns (state_of slots outside sheet.now) result }
+    ensures { SwingsSoFar K.kind K.columns (state_of S.slots S.outside sheet.now) result }
 {
     let mut sum = K::zero();
     let mut before = K::zero();
@@ -192,8 +192,8 @@ fn swing_so_far<K: Total, S: Shelf<K>>(sheet: &Sheet<K, S>) -> Result<SoFar<K>, 
 
 // That sum with the step to the zero after the last day.
 fn with_last_step<K: Total, S: Shelf<K>>(sheet: &Sheet<K, S>, so_far: SoFar<K>) -> Result<K, Stop>
-    requires { SoFar kind columns (state_of slots outside sheet.now) so_far }
-    ensures { ComesOut kind columns (state_of slots outside sheet.now) (standing_swing kind (state_of slots outside sheet.now)) result }
+    requires { SoFar K.kind K.columns (state_of S.slots S.outside sheet.now) so_far }
+    ensures { ComesOut K.kind K.columns (state_of S.slots S.outside sheet.now) (standing_swing K.kind (state_of S.slots S.outside sheet.now)) result }
 {
     with_step(so_far.sum, so_far.last, K::zero())
 }

@@ -33,7 +33,7 @@ impl<K: Total, S: Shelf<K>> Sheet<K, S> {
         totals: &[K],
         work: &mut [WorkEntry<K>],
     ) -> Result<usize, Stop>
-        ensures { Take kind (map columns totals.now) (length work.old) (state_of slots outside self.old) (state_of slots outside self.new) self.old self.new work.old work.new result }
+        ensures { Take K.kind (map K.columns totals.now) (length work.old) (state_of S.slots S.outside self.old) (state_of S.slots S.outside self.new) self.old self.new work.old work.new result }
     {
         let pulses = match split_record(totals, work, &mut self.shelf) {
             Ok(count) => count,
@@ -46,7 +46,7 @@ impl<K: Total, S: Shelf<K>> Sheet<K, S> {
 }
 
 fn day_count<K: Total>(totals: &[K]) -> usize
-    ensures { result ≡ length (map columns totals.now) }
+    ensures { result ≡ length (map K.columns totals.now) }
 {
     totals.len()
 }

@@ -22,7 +22,7 @@ fn covered<K: Total>(row: Row<K>, day: usize) -> bool
 // The sum with what the row adds to it on a day: its amount, if it is marked in and covers the day.
 fn with_row<K: Total>(sum: K, row: Row<K>, day: usize) -> Result<K, Stop>
     requires { row.mark ≤ 1 }
-    ensures { ComesTo kind columns (plus kind.arity (columns sum) (stood kind (stands_in kind (shown kind columns row)) day)) result }
+    ensures { ComesTo K.kind K.columns (plus K.kind.arity (K.columns sum) (stood K.kind (stands_in K.kind (shown K.kind K.columns row)) day)) result }
 {
     if row.mark == 0 && covered(row, day) {
         with_amount(sum, row.amount)
@@ -33,7 +33,7 @@ fn with_row<K: Total>(sum: K, row: Row<K>, day: usize) -> Result<K, Stop>
 
 // The sum of two totals.
 fn with_amount<K: Total>(sum: K, amount: K) -> Result<K, Stop>
-    ensures { ComesTo kind columns (plus kind.arity (columns sum) (columns amount)) result }
+    ensures { ComesTo K.kind K.columns (plus K.kind.arity (K.columns sum) (K.columns amount)) result }
 {
     match sum.sum(amount) {
         Some(total) => Ok(total),
@@ -43,7 +43,7 @@ fn with_amount<K: Total>(sum: K, amount: K) -> Result<K, Stop>
 
 // The sum with what the row in a slot adds to it on a day.
 fn with_slot<K: Total, S: Shelf<K>>(shelf: &S, slot: usize, sum: K, day: usize) -> Result<K, Stop>
-    ensures { Adds kind columns (columns sum) (slots shelf.now) slot day result }
+    ensures { Adds K.kind K.columns (K.columns sum) (S.slots shelf.now) slot day result }
 {
     match held_row(shelf, slot) {
         Ok(row) => with_row(sum, row, day),
@@ -57,7 +57,7 @@ pub(crate) fn standing_on<K: Total, S: Shelf<K>>(
     count: usize,
     day: usize,
 ) -> Result<K, Stop>
-    ensures { Stands kind columns (slots shelf.now) count day result }
+    ensures { Stands K.kind K.columns (S.slots shelf.now) count day result }
 {
     let mut sum = K::zero();
     for slot in 0..count {

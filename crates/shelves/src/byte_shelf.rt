@@ -34,17 +34,17 @@ fn start_of(slot: usize, size: usize) -> usize
 
 // How many slots lent bytes have.
 fn slot_count<K: Total>(bytes: &[u8]) -> usize
-    ensures { result ≡ length (shown_bytes kind bytes.now) }
+    ensures { result ≡ length (shown_bytes K.kind bytes.now) }
 {
     slots_in(bytes.len(), slot_size::<K>())
 }
 
 // Writes a row over the bytes of its slot.
 fn put_packed<K: Total>(bytes: &mut [u8], slot: usize, row: &Row<K>) -> Result<(), NoSuchSlot>
-    ensures answer { Put (length (shown_bytes kind bytes.old)) slot bytes.old bytes.new result }
-    ensures slots { shown_bytes kind bytes.new ≡ slice_set (shown_bytes kind bytes.old) slot (shown kind columns row.now) }
-    ensures past { past kind bytes.new ≡ past kind bytes.old }
-    ensures bytes { slot < whole kind.arity bytes.old → bytes.new ≡ overwritten bytes.old (slot * size kind.arity) (packed kind columns row.now) }
+    ensures answer { Put (length (shown_bytes K.kind bytes.old)) slot bytes.old bytes.new result }
+    ensures slots { shown_bytes K.kind bytes.new ≡ slice_set (shown_bytes K.kind bytes.old) slot (shown K.kind K.columns row.now) }
+    ensures past { past K.kind bytes.new ≡ past K.kind bytes.old }
+    ensures bytes { slot < whole K.kind.arity bytes.old → bytes.new ≡ overwritten bytes.old (slot * size K.kind.arity) (packed K.kind K.columns row.now) }
 {
     let size = slot_size::<K>();
     if slot < slots_in(bytes.len(), size) {
@@ -58,7 +58,7 @@ fn put_packed<K: Total>(bytes: &mut [u8], slot: usize, row: &Row<K>) -> Result<(
 
 // The row in the bytes of a slot.
 fn read_packed<K: Total>(bytes: &[u8], slot: usize) -> Result<Option<Row<K>>, NoSuchSlot>
-    ensures { Read kind columns (shown_bytes kind bytes.now) slot result }
+    ensures { Read K.kind K.columns (shown_bytes K.kind bytes.now) slot result }
 {
     let size = slot_size::<K>();
     if slot < slots_in(bytes.len(), size) {
@@ -70,9 +70,9 @@ fn read_packed<K: Total>(bytes: &[u8], slot: usize) -> Result<Option<Row<K>>, No
 }
 
 impl<'a, K: Total> Shelf<K> for ByteShelf<'a, K> {
-    ghost slots = { λ s. shown_bytes kind s.bytes.now };
+    ghost slots = { λ s. shown_bytes K.kind s.bytes.now };
 
-    ghost outside = { λ s. over_bytes kind s.bytes };
+    ghost outside = { λ s. over_bytes K.kind s.bytes };
 
     fn capacity(&self) -> usize {
         let bytes = &*self.bytes;
@@ -81,10 +81,10 @@ impl<'a, K: Total> Shelf<K> for ByteShelf<'a, K> {
 
     // The clauses of every shelf, and beside them the bytes that change.
     fn put(&mut self, slot: usize, row: &Row<K>) -> Result<(), NoSuchSlot>
-        ensures answer { Put (length (shown_bytes kind self.old.bytes.now)) slot self.old self.new result }
-        ensures slots { shown_bytes kind self.new.bytes.now ≡ slice_set (shown_bytes kind self.old.bytes.now) slot (shown kind columns row.now) }
-        ensures outside { over_bytes kind self.new.bytes ≡ over_bytes kind self.old.bytes }
-        ensures bytes { slot < whole kind.arity self.old.bytes.now → self.new.bytes.now ≡ overwritten self.old.bytes.now (slot * size kind.arity) (packed kind columns row.now) }
+        ensures answer { Put (length (shown_bytes K.kind self.old.bytes.now)) slot self.old self.new result }
+        ensures slots { shown_bytes K.kind self.new.bytes.now ≡ slice_set (shown_bytes K.kind self.old.bytes.now) slot (shown K.kind K.columns row.now) }
+        ensures outside { over_bytes K.kind self.new.bytes ≡ over_bytes K.kind self.old.bytes }
+        ensures bytes { slot < whole K.kind.arity self.old.bytes.now → self.new.bytes.now ≡ overwritten self.old.bytes.now (slot * size K.kind.arity) (packed K.kind K.columns row.now) }
     {
         put_packed(self.bytes, slot, row)
     }
@@ -97,8 +97,8 @@ impl<'a, K: Total> Shelf<K> for ByteShelf<'a, K> {
 
 impl<'a, K: Total> OverBytes<'a, K> for ByteShelf<'a, K> {
     fn over(bytes: &'a mut [u8]) -> ByteShelf<'a, K>
-        ensures slots { shown_bytes kind result.bytes.now ≡ shown_bytes kind bytes.old }
-        ensures outside { over_bytes kind result.bytes ≡ over_bytes kind bytes.entry }
+        ensures slots { shown_bytes K.kind result.bytes.now ≡ shown_bytes K.kind bytes.old }
+        ensures outside { over_bytes K.kind result.bytes ≡ over_bytes K.kind bytes.entry }
         ensures bytes { result.bytes ≡ bytes.entry }
     {
         ByteShelf {

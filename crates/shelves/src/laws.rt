@@ -12,8 +12,8 @@ pub fn put_then_read<K: Total, S: Shelf<K>>(
     slot: usize,
     row: &Row<K>,
 ) -> Result<Option<Row<K>>, NoSuchSlot>
-    ensures back { ComesBack kind columns (length (S.Shelf.slots shelf.old)) slot row.now result }
-    ensures slots { S.Shelf.slots shelf.new ≡ slice_set (S.Shelf.slots shelf.old) slot (shown kind columns row.now) }
+    ensures back { ComesBack K.kind K.columns (length (S.Shelf.slots shelf.old)) slot row.now result }
+    ensures slots { S.Shelf.slots shelf.new ≡ slice_set (S.Shelf.slots shelf.old) slot (shown K.kind K.columns row.now) }
     ensures outside { S.Shelf.outside shelf.new ≡ S.Shelf.outside shelf.old }
 {
     shelf.put(slot, row)?;

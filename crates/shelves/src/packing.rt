@@ -12,7 +12,7 @@ use kinds::Total;
 
 // How many bytes a slot has.
 pub(crate) fn slot_size<K: Total>() -> usize
-    ensures { result ≡ size kind.arity }
+    ensures { result ≡ size K.kind.arity }
 {
     match K::zero().column(2) {
         Some(_) => 24,
@@ -65,8 +65,8 @@ fn write_column(bytes: &mut [u8], value: i64)
 
 // A column of an amount that has it.
 fn column_of<K: Total>(amount: K, number: u8) -> i64
-    requires { (1 ≤ number) × (number ≤ count kind.arity) }
-    ensures { column kind.arity (columns amount) number ≡ Some result }
+    requires { (1 ≤ number) × (number ≤ count K.kind.arity) }
+    ensures { column K.kind.arity (K.columns amount) number ≡ Some result }
 {
     match amount.column(number) {
         Some(value) => value,
@@ -76,8 +76,8 @@ fn column_of<K: Total>(amount: K, number: u8) -> i64
 
 // Writes every column, one after the other.
 fn write_columns<K: Total>(bytes: &mut [u8], amount: K)
-    requires { length bytes.old ≡ 8 * count kind.arity }
-    ensures { bytes.new ≡ packed_columns kind.arity (columns amount) }
+    requires { length bytes.old ≡ 8 * count K.kind.arity }
+    ensures { bytes.new ≡ packed_columns K.kind.arity (K.columns amount) }
 {
     write_column(&mut bytes[0..8], column_of(amount, 1));
     if bytes.len() > 8 {
@@ -87,9 +87,9 @@ fn write_columns<K: Total>(bytes: &mut [u8], amount: K)
 
 // Writes a row over the bytes of a slot, which then show it.
 pub(crate) fn pack<K: Total>(slot: &mut [u8], row: &Row<K>)
-    requires { length slot.old ≡ size kind.arity }
-    ensures bytes { slot.new ≡ packed kind columns row.now }
-    ensures shows { unpacked kind (packed kind columns row.now) ≡ shown kind columns row.now }
+    requires { length slot.old ≡ size K.kind.arity }
+    ensures bytes { slot.new ≡ packed K.kind K.columns row.now }
+    ensures shows { unpacked K.kind (packed K.kind K.columns row.now) ≡ shown K.kind K.columns row.now }
 {
     slot[0..8].copy_from_slice(&head(row.first, row.width, row.mark));
     write_columns(&mut slot[8..], row.amount);
@@ -97,8 +97,8 @@ pub(crate) fn pack<K: Total>(slot: &mut [u8], row: &Row<K>)
 
 // The amount in a slot, or nothing where the kind has no such value.
 fn amount_in<K: Total>(slot: &[u8]) -> Option<K>
-    requires { length slot.now ≡ size kind.arity }
-    ensures { Gives kind columns (stored kind.arity slot.now) result }
+    requires { length slot.now ≡ size K.kind.arity }
+    ensures { Gives K.kind K.columns (stored K.kind.arity slot.now) result }
 {
     let Some(amount) = K::zero().replace(1, column_in(&slot[8..16])) else {
         return None;
@@ -112,8 +112,8 @@ fn amount_in<K: Total>(slot: &[u8]) -> Option<K>
 
 // The row in the bytes of a slot, or nothing where they are blank.
 pub(crate) fn unpack<K: Total>(slot: &[u8]) -> Option<Row<K>>
-    requires { length slot.now ≡ size kind.arity }
-    ensures { Holds kind columns (unpacked kind slot.now) result }
+    requires { length slot.now ≡ size K.kind.arity }
+    ensures { Holds K.kind K.columns (unpacked K.kind slot.now) result }
 {
     if !is_row(slot) {
         return None;

@@ -15,15 +15,15 @@ pub struct RowShelf<'a, K> {
 
 // How many slots lent rows have.
 fn row_count<K: Total>(rows: &[Row<K>]) -> usize
-    ensures { result ≡ length (shown_rows kind columns rows.now) }
+    ensures { result ≡ length (shown_rows K.kind K.columns rows.now) }
 {
     rows.len()
 }
 
 // Writes a row whole.
 fn put_row<K: Total>(rows: &mut [Row<K>], slot: usize, row: Row<K>) -> Result<(), NoSuchSlot>
-    ensures answer { Put (length (shown_rows kind columns rows.old)) slot rows.old rows.new result }
-    ensures slots { shown_rows kind columns rows.new ≡ slice_set (shown_rows kind columns rows.old) slot (shown kind columns row) }
+    ensures answer { Put (length (shown_rows K.kind K.columns rows.old)) slot rows.old rows.new result }
+    ensures slots { shown_rows K.kind K.columns rows.new ≡ slice_set (shown_rows K.kind K.columns rows.old) slot (shown K.kind K.columns row) }
     ensures rows { rows.new ≡ slice_set rows.old slot row }
 {
     if slot < rows.len() {
@@ -36,7 +36,7 @@ fn put_row<K: Total>(rows: &mut [Row<K>], slot: usize, row: Row<K>) -> Result<()
 
 // The row in a slot, unless it is blank.
 fn read_row<K: Total>(rows: &[Row<K>], slot: usize) -> Result<Option<Row<K>>, NoSuchSlot>
-    ensures { Read kind columns (shown_rows kind columns rows.now) slot result }
+    ensures { Read K.kind K.columns (shown_rows K.kind K.columns rows.now) slot result }
 {
     if slot < rows.len() {
         let row = rows[slot];
@@ -51,7 +51,7 @@ fn read_row<K: Total>(rows: &[Row<K>], slot: usize) -> Result<Option<Row<K>>, No
 }
 
 impl<'a, K: Total> Shelf<K> for RowShelf<'a, K> {
-    ghost slots = { λ s. shown_rows kind columns s.rows.now };
+    ghost slots = { λ s. shown_rows K.kind K.columns s.rows.now };
 
     ghost outside = { λ s. over_rows s.rows };
 
@@ -62,8 +62,8 @@ impl<'a, K: Total> Shelf<K> for RowShelf<'a, K> {
 
     // The clauses of every shelf, and beside them the row that changes.
     fn put(&mut self, slot: usize, row: &Row<K>) -> Result<(), NoSuchSlot>
-        ensures answer { Put (length (shown_rows kind columns self.old.rows.now)) slot self.old self.new result }
-        ensures slots { shown_rows kind columns self.new.rows.now ≡ slice_set (shown_rows kind columns self.old.rows.now) slot (shown kind columns row.now) }
+        ensures answer { Put (length (shown_rows K.kind K.columns self.old.rows.now)) slot self.old self.new result }
+        ensures slots { shown_rows K.kind K.columns self.new.rows.now ≡ slice_set (shown_rows K.kind K.columns self.old.rows.now) slot (shown K.kind K.columns row.now) }
         ensures outside { over_rows self.new.rows ≡ over_rows self.old.rows }
         ensures rows { self.new.rows.now ≡ slice_set self.old.rows.now slot row.now }
     {
@@ -78,7 +78,7 @@ impl<'a, K: Total> Shelf<K> for RowShelf<'a, K> {
 
 impl<'a, K: Total> OverRows<'a, K> for RowShelf<'a, K> {
     fn over(rows: &'a mut [Row<K>]) -> RowShelf<'a, K>
-        ensures slots { shown_rows kind columns result.rows.now ≡ shown_rows kind columns rows.old }
+        ensures slots { shown_rows K.kind K.columns result.rows.now ≡ shown_rows K.kind K.columns rows.old }
         ensures outside { over_rows result.rows ≡ over_rows rows.entry }
         ensures rows { result.rows ≡ rows.entry }
     {

@@ -20,19 +20,19 @@ pub trait Shelf<K: Total> {
     // Fills one slot with a row. A row whose mark is neither 0 nor 1 makes the slot blank.
     fn put(&mut self, slot: usize, row: &Row<K>) -> Result<(), NoSuchSlot>
         ensures answer { Put (length (slots self.old)) slot self.old self.new result }
-        ensures slots { slots self.new ≡ slice_set (slots self.old) slot (shown kind columns row.now) }
+        ensures slots { slots self.new ≡ slice_set (slots self.old) slot (shown K.kind K.columns row.now) }
         ensures outside { outside self.new ≡ outside self.old };
 
     // The row in a slot, or nothing where the slot is blank.
     fn read(&self, slot: usize) -> Result<Option<Row<K>>, NoSuchSlot>
-        ensures { Read kind columns (slots self.now) slot result };
+        ensures { Read K.kind K.columns (slots self.now) slot result };
 }
 
 // A shelf over lent rows.
 pub trait OverRows<'a, K: Total>: Shelf<K> {
     // One slot a row.
     fn over(rows: &'a mut [Row<K>]) -> Self
-        ensures slots { Self.Shelf.slots result ≡ shown_rows kind columns rows.old }
+        ensures slots { Self.Shelf.slots result ≡ shown_rows K.kind K.columns rows.old }
         ensures outside { Self.Shelf.outside result ≡ over_rows rows.entry };
 }
 
@@ -40,6 +40,6 @@ pub trait OverRows<'a, K: Total>: Shelf<K> {
 pub trait OverBytes<'a, K: Total>: Shelf<K> {
     // As many slots as whole slots fit; the bytes past them never change.
     fn over(bytes: &'a mut [u8]) -> Self
-        ensures slots { Self.Shelf.slots result ≡ shown_bytes kind bytes.old }
-        ensures outside { Self.Shelf.outside result ≡ over_bytes kind bytes.entry };
+        ensures slots { Self.Shelf.slots result ≡ shown_bytes K.kind bytes.old }
+        ensures outside { Self.Shelf.outside result ≡ over_bytes K.kind bytes.entry };
 }

@@ -21,8 +21,8 @@ struct Layout<K> {
 // Lays the record out in runs and marks each of them. Answers the number of marks.
 pub(crate) fn build<K: Total>(totals: &[K], work: &mut [WorkEntry<K>]) -> usize
     requires { length totals.now + 2 ≤ length work.old }
-    ensures knows { Knows (suc (length totals.now)) (suc (suc (length totals.now))) (view kind columns work.new) (trace kind (map columns totals.now)) }
-    ensures marks { Marks kind (trace kind (map columns totals.now)) (view kind columns work.new).mark 0 result 0 (suc (length totals.now)) }
+    ensures knows { Knows (suc (length totals.now)) (suc (suc (length totals.now))) (view K.kind K.columns work.new) (trace K.kind (map K.columns totals.now)) }
+    ensures marks { Marks K.kind (trace K.kind (map K.columns totals.now)) (view K.kind K.columns work.new).mark 0 result 0 (suc (length totals.now)) }
     ensures few { result ≤ suc (length totals.now) }
 {
     let mut at = Layout {
@@ -49,7 +49,7 @@ pub(crate) fn build<K: Total>(totals: &[K], work: &mut [WorkEntry<K>]) -> usize
 
 // The total of the days outside the record: zero, whatever the run that is open holds.
 fn outside<K: Total>(_open: Layout<K>) -> K
-    ensures { columns result ≡ nought kind.arity }
+    ensures { K.columns result ≡ nought K.kind.arity }
 {
     K::zero()
 }
@@ -60,7 +60,7 @@ fn extended<K: Total>(work: &mut [WorkEntry<K>], at: Layout<K>, day: usize, tota
     requires first_le_day { at.first ≤ day }
     requires marks_le_day { at.marks ≤ day }
     requires day_in_bounds { day < length work.old }
-    ensures { (m : ℕ) (x : ℕ → Of kind) → Laid m x (view kind columns work.old) at.first at.marks day → columns at.total ≡ x at.first → columns total ≡ x (suc day) → suc day ≤ m → Laid m x (view kind columns work.new) result.first result.marks (suc day) × (columns result.total ≡ x result.first) }
+    ensures { (m : ℕ) (x : ℕ → Of K.kind) → Laid m x (view K.kind K.columns work.old) at.first at.marks day → K.columns at.total ≡ x at.first → K.columns total ≡ x (suc day) → suc day ≤ m → Laid m x (view K.kind K.columns work.new) result.first result.marks (suc day) × (K.columns result.total ≡ x result.first) }
 {
     if same(at.total, total) {
         return at;

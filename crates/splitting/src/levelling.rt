@@ -56,7 +56,7 @@ pub(crate) struct Progress {
 
 // Whether a total lies below another, or in a downward pass above it.
 fn under<K: Total>(a: K, b: K, down: bool) -> bool
-    ensures { result ≡ (aimed kind down).below (columns a) (columns b) }
+    ensures { result ≡ (aimed K.kind down).below (K.columns a) (K.columns b) }
 {
     match if down { b.compare(a) } else { a.compare(b) } {
         Ordering::Less => true,
@@ -67,7 +67,7 @@ fn under<K: Total>(a: K, b: K, down: bool) -> bool
 
 // The one of two totals that is nearer to a bump above both, or in a downward pass to a pit.
 fn nearer<K: Total>(a: K, b: K, down: bool) -> K
-    ensures { columns result ≡ (if (aimed kind down).below (columns a) (columns b) then columns b else columns a) }
+    ensures { K.columns result ≡ (if (aimed K.kind down).below (K.columns a) (K.columns b) then K.columns b else K.columns a) }
 {
     if under(a, b, down) { b } else { a }
 }
@@ -86,7 +86,7 @@ fn fate_of<K: Total>(work: &[WorkEntry<K>], run: Run, days: usize, pass: Pass) -
     requires first_le_last { run.first ≤ run.last }
     requires days_in_bounds { days + 2 ≤ length work.now }
     requires last_bound { run.last ≤ suc days }
-    ensures { FateOf (aimed kind pass.down) days pass.width run.first run.last ((view kind columns work.now).total (run.first - 1)) ((view kind columns work.now).total run.first) ((view kind columns work.now).total (run.last + 1)) result }
+    ensures { FateOf (aimed K.kind pass.down) days pass.width run.first run.last ((view K.kind K.columns work.now).total (run.first - 1)) ((view K.kind K.columns work.now).total run.first) ((view K.kind K.columns work.now).total (run.last + 1)) result }
 {
     if run.last > days {
         return Fate::Dropped;
@@ -118,11 +118,11 @@ fn pulse<K: Total>(work: &[WorkEntry<K>], run: Run, pass: Pass) -> Row<K>
     requires first_le_last { run.first ≤ run.last }
     requires first_bound { run.first < 65536 }
     requires width_bound { pass.width < 65536 }
-    requires first_value { within kind.arity kind.bound ((view kind columns work.now).total run.first) ≡ true }
-    requires first_value_2 { within kind.arity kind.bound ((view kind columns work.now).total (run.first - 1)) ≡ true }
-    requires last_value { within kind.arity kind.bound ((view kind columns work.now).total (run.last + 1)) ≡ true }
+    requires first_value { within K.kind.arity K.kind.bound ((view K.kind K.columns work.now).total run.first) ≡ true }
+    requires first_value_2 { within K.kind.arity K.kind.bound ((view K.kind K.columns work.now).total (run.first - 1)) ≡ true }
+    requires last_value { within K.kind.arity K.kind.bound ((view K.kind K.columns work.now).total (run.last + 1)) ≡ true }
     requires first_nonzero { 0 < run.first }
-    ensures { shown kind columns result ≡ row_of (bump_pulse kind pass.down (view kind columns work.now) pass.width run.first run.last) }
+    ensures { shown K.kind K.columns result ≡ row_of (bump_pulse K.kind pass.down (view K.kind K.columns work.now) pass.width run.first run.last) }
 {
     let left = total_at(work, run.first - 1);
     let right = total_at(work, run.last + 1);
@@ -135,7 +135,7 @@ fn pulse<K: Total>(work: &[WorkEntry<K>], run: Run, pass: Pass) -> Row<K>
 fn row_in<K: Total>(first: usize, width: usize, amount: K) -> Row<K>
     requires first_bound { first < 65536 }
     requires width_bound { width < 65536 }
-    ensures { shown kind columns result ≡ marked_in first width (listed kind.arity (columns amount)) }
+    ensures { shown K.kind K.columns result ≡ marked_in first width (listed K.kind.arity (K.columns amount)) }
 {
     Row {
         first: first as u16,
@@ -154,7 +154,7 @@ fn joined<K: Total>(
     end: usize,
 ) -> usize
     requires { neighbour < length work.now }
-    ensures { Joins (view kind columns work.now) (columns beside) (columns level) neighbour end result }
+    ensures { Joins (view K.kind K.columns work.now) (K.columns beside) (K.columns level) neighbour end result }
 {
     if same(beside, level) {
         other_at(work, neighbour)
@@ -168,9 +168,9 @@ fn level<K: Total>(work: &mut [WorkEntry<K>], run: Run, down: bool) -> Run
     requires first_nonzero { 0 < run.first }
     requires first_le_last { run.first ≤ run.last }
     requires last_in_bounds { run.last + 1 < length work.old }
-    requires first_in_bounds { (view kind columns work.old).other (run.first - 1) < length work.old }
-    requires last_in_bounds_2 { (view kind columns work.old).other (run.last + 1) < length work.old }
-    ensures { Relaid (aimed kind down) (view kind columns work.old) (view kind columns work.new) run.first run.last result.first result.last }
+    requires first_in_bounds { (view K.kind K.columns work.old).other (run.first - 1) < length work.old }
+    requires last_in_bounds_2 { (view K.kind K.columns work.old).other (run.last + 1) < length work.old }
+    ensures { Relaid (aimed K.kind down) (view K.kind K.columns work.old) (view K.kind K.columns work.new) run.first run.last result.first result.last }
 {
     let left = total_at(work, run.first - 1);
     let right = total_at(work, run.last + 1);
@@ -185,7 +185,7 @@ fn level<K: Total>(work: &mut [WorkEntry<K>], run: Run, down: bool) -> Run
 // Marks a run, unless it has the last mark or reaches back before day 1. Answers the number of marks.
 fn marked<K: Total>(work: &mut [WorkEntry<K>], kept: usize, first: usize) -> usize
     requires { kept < length work.old }
-    ensures { Marked (view kind columns work.old) (view kind columns work.new) kept first result }
+    ensures { Marked (view K.kind K.columns work.old) (view K.kind K.columns work.new) kept first result }
 {
     if first == 0 {
         return kept;
@@ -210,9 +210,9 @@ pub(crate) fn level_width<K: Total, S: Shelf<K>>(
     requires room { days + 2 ≤ length work.old }
     requires few { days ≤ 1000 }
     requires rows { rows ≤ days }
-    requires stands { (b : Record kind) × (a : Record kind) × Ready kind pass.down pass.width days (view kind columns work.old) marks b a }
-    ensures stands { (b a : Record kind) → Ready kind pass.down pass.width days (view kind columns work.old) marks b a → Swept kind pass.down days (view kind columns work.new) result.kept b a rows result.rows (slots shelf.old) (slots shelf.new) }
-    ensures outside { outside shelf.new ≡ outside shelf.old }
+    requires stands { (b : Record K.kind) × (a : Record K.kind) × Ready K.kind pass.down pass.width days (view K.kind K.columns work.old) marks b a }
+    ensures stands { (b a : Record K.kind) → Ready K.kind pass.down pass.width days (view K.kind K.columns work.old) marks b a → Swept K.kind pass.down days (view K.kind K.columns work.new) result.kept b a rows result.rows (S.slots shelf.old) (S.slots shelf.new) }
+    ensures outside { S.outside shelf.new ≡ S.outside shelf.old }
 {
     let mut at = Progress {
         kept: 0,
@@ -231,9 +231,9 @@ pub(crate) fn level_width<K: Total, S: Shelf<K>>(
 // Puts a row after those that there are. Answers their new number.
 fn put_next<K: Total, S: Shelf<K>>(shelf: &mut S, rows: usize, row: Row<K>) -> usize
     requires { rows < 65536 }
-    ensures slots { slots shelf.new ≡ slice_set (slots shelf.old) rows (shown kind columns row) }
+    ensures slots { S.slots shelf.new ≡ slice_set (S.slots shelf.old) rows (shown K.kind K.columns row) }
     ensures rows { result ≡ rows + 1 }
-    ensures outside { outside shelf.new ≡ outside shelf.old }
+    ensures outside { S.outside shelf.new ≡ S.outside shelf.old }
 {
     let _ = shelf.put(rows, &row);
     rows + 1
@@ -251,10 +251,10 @@ fn visit<K: Total, S: Shelf<K>>(
     requires room { days + 2 ≤ length work.old }
     requires few { days ≤ 1000 }
     requires rows { at.rows < 65536 }
-    requires stands { (b : Record kind) × (a : Record kind) × (i : ℕ) × (hi : ℕ) × Visiting kind pass.down pass.width days (view kind columns work.old) at.kept at.reached first b a i hi }
-    ensures stands { (b a : Record kind) (i hi : ℕ) → Visiting kind pass.down pass.width days (view kind columns work.old) at.kept at.reached first b a i hi → Midway (aimed kind pass.down) pass.width (suc days) (trace kind b) (view kind columns work.new) (suc i) hi result.kept result.reached × Added kind (change kind b a) at.reached result.reached at.rows result.rows (slots shelf.old) (slots shelf.new) }
+    requires stands { (b : Record K.kind) × (a : Record K.kind) × (i : ℕ) × (hi : ℕ) × Visiting K.kind pass.down pass.width days (view K.kind K.columns work.old) at.kept at.reached first b a i hi }
+    ensures stands { (b a : Record K.kind) (i hi : ℕ) → Visiting K.kind pass.down pass.width days (view K.kind K.columns work.old) at.kept at.reached first b a i hi → Midway (aimed K.kind pass.down) pass.width (suc days) (trace K.kind b) (view K.kind K.columns work.new) (suc i) hi result.kept result.reached × Added K.kind (change K.kind b a) at.reached result.reached at.rows result.rows (S.slots shelf.old) (S.slots shelf.new) }
     ensures rows { result.rows ≤ at.rows + 1 }
-    ensures outside { outside shelf.new ≡ outside shelf.old }
+    ensures outside { S.outside shelf.new ≡ S.outside shelf.old }
 {
     let run = Run {
         first,

@@ -28,7 +28,7 @@ fn too_small(capacity: usize, days: usize) -> bool
 
 // The first day, counted from 1, whose total may not be entered.
 fn first_barred<K: Total>(totals: &[K]) -> Option<usize>
-    ensures { BarredDay kind (map columns totals.now) result }
+    ensures { BarredDay K.kind (map K.columns totals.now) result }
 {
     let mut day = 0usize;
     for total in totals {
@@ -46,7 +46,7 @@ pub(crate) fn refused_split<K: Total>(
     entries: usize,
     capacity: usize,
 ) -> Option<Refusal>
-    ensures { RefusalOf kind (map columns totals.now) entries capacity result }
+    ensures { RefusalOf K.kind (map K.columns totals.now) entries capacity result }
 {
     let days = totals.len();
     if too_many(days) {

@@ -16,7 +16,7 @@ pub fn split_record<K: Total, S: Shelf<K>>(
     work: &mut [WorkEntry<K>],
     shelf: &mut S,
 ) -> Result<usize, Refusal>
-    ensures { Splits kind (map columns totals.now) (length work.old) (slots shelf.old) (slots shelf.new) (outside shelf.old) (outside shelf.new) shelf.old shelf.new work.old work.new result }
+    ensures { Splits K.kind (map K.columns totals.now) (length work.old) (S.slots shelf.old) (S.slots shelf.new) (S.outside shelf.old) (S.outside shelf.new) shelf.old shelf.new work.old work.new result }
 {
     match refused_split(totals, work.len(), shelf.capacity()) {
         Some(refusal) => Err(refusal),

@@ -16,10 +16,10 @@ pub(crate) fn split_widths<K: Total, S: Shelf<K>>(
     work: &mut [WorkEntry<K>],
     shelf: &mut S,
 ) -> usize
-    requires { Accepted kind (map columns totals.now) (length work.old) (length (slots shelf.old)) }
-    ensures count { result ≡ length (pulses kind (map columns totals.now)) }
-    ensures rows { slots shelf.new ≡ laid (pulses kind (map columns totals.now)) (slots shelf.old) }
-    ensures outside { outside shelf.new ≡ outside shelf.old }
+    requires { Accepted K.kind (map K.columns totals.now) (length work.old) (length (S.slots shelf.old)) }
+    ensures count { result ≡ length (pulses K.kind (map K.columns totals.now)) }
+    ensures rows { S.slots shelf.new ≡ laid (pulses K.kind (map K.columns totals.now)) (S.slots shelf.old) }
+    ensures outside { S.outside shelf.new ≡ S.outside shelf.old }
 {
     let days = totals.len();
     let mut marks = build(totals, work);

@@ -20,7 +20,7 @@ pub struct WorkEntry<K> {
 impl<K: Total> WorkEntry<K> {
     // An entry to fill a work list with.
     pub fn new() -> WorkEntry<K>
-        ensures { Cleared kind columns result }
+        ensures { Cleared K.kind K.columns result }
     {
         WorkEntry {
             total: K::zero(),
@@ -39,7 +39,7 @@ pub(crate) struct Run {
 
 pub(crate) fn total_at<K: Total>(work: &[WorkEntry<K>], day: usize) -> K
     requires { day < length work.now }
-    ensures { columns result ≡ (view kind columns work.now).total day }
+    ensures { K.columns result ≡ (view K.kind K.columns work.now).total day }
 {
     work[day].total
 }
@@ -47,21 +47,21 @@ pub(crate) fn total_at<K: Total>(work: &[WorkEntry<K>], day: usize) -> K
 // The other end of the run that begins or ends on a day.
 pub(crate) fn other_at<K: Total>(work: &[WorkEntry<K>], day: usize) -> usize
     requires { day < length work.now }
-    ensures { result ≡ (view kind columns work.now).other day }
+    ensures { result ≡ (view K.kind K.columns work.now).other day }
 {
     work[day].other
 }
 
 pub(crate) fn mark_at<K: Total>(work: &[WorkEntry<K>], number: usize) -> usize
     requires { number < length work.now }
-    ensures { result ≡ (view kind columns work.now).mark number }
+    ensures { result ≡ (view K.kind K.columns work.now).mark number }
 {
     work[number].mark
 }
 
 pub(crate) fn set_mark<K: Total>(work: &mut [WorkEntry<K>], number: usize, first: usize)
     requires { number < length work.old }
-    ensures { view kind columns work.new ≡ with_mark (view kind columns work.old) number first }
+    ensures { view K.kind K.columns work.new ≡ with_mark (view K.kind K.columns work.old) number first }
 {
     let old = work[number];
     work[number] = WorkEntry {
@@ -75,7 +75,7 @@ pub(crate) fn set_mark<K: Total>(work: &mut [WorkEntry<K>], number: usize, first
 pub(crate) fn set_run<K: Total>(work: &mut [WorkEntry<K>], run: Run, total: K)
     requires first_in_bounds { run.first < length work.old }
     requires last_in_bounds { run.last < length work.old }
-    ensures { view kind columns work.new ≡ with_run (view kind columns work.old) run.first run.last (columns total) }
+    ensures { view K.kind K.columns work.new ≡ with_run (view K.kind K.columns work.old) run.first run.last (K.columns total) }
 {
     set_end(work, run.first, run.last, total);
     set_end(work, run.last, run.first, total);
@@ -83,7 +83,7 @@ pub(crate) fn set_run<K: Total>(work: &mut [WorkEntry<K>], run: Run, total: K)
 
 fn set_end<K: Total>(work: &mut [WorkEntry<K>], day: usize, other: usize, total: K)
     requires { day < length work.old }
-    ensures { view kind columns work.new ≡ with_end (view kind columns work.old) day other (columns total) }
+    ensures { view K.kind K.columns work.new ≡ with_end (view K.kind K.columns work.old) day other (K.columns total) }
 {
     let mark = work[day].mark;
     work[day] = WorkEntry { total, other, mark };
@@ -91,7 +91,7 @@ fn set_end<K: Total>(work: &mut [WorkEntry<K>], day: usize, other: usize, total:
 
 // Whether two totals are equal.
 pub(crate) fn same<K: Total>(a: K, b: K) -> bool
-    ensures { MatchBool result (columns a ≡ columns b) (columns a ≢ columns b) }
+    ensures { MatchBool result (K.columns a ≡ K.columns b) (K.columns a ≢ K.columns b) }
 {
     match a.compare(b) {
         Ordering::Equal => true,
