@@ -27,23 +27,24 @@ def files(root, ends):
 
 def declared(text, generated):
     """The names that a file of specs/ or proofs/ declares, with what they are."""
-    inside = None
     for line in text.split("\n"):
-        if line.strip().startswith("--") or line.startswith("use "):
+        if line.strip().startswith("--"):
+            continue
+        if line.startswith(("use ", "ghost use ")):
+            for alias in re.findall(r"\sas (" + WORD + ")", line):
+                yield alias, "term"
             continue
         m = re.match(r"^(?:(?:abbrev|unfoldable|pub)\s+)*(record|data)\s+(" + WORD + ")", line)
         if m:
-            inside = m[1]
             yield m[2], "type"
             continue
         m = re.match(r"^(?:(?:abbrev|unfoldable|pub)\s+)*(" + WORD + r")\s*:(?:\s(.*))?$", line)
         if m:
-            inside = None
             if not (generated and (m[2] or "").startswith("goal.")):
                 yield m[1], "term"
             continue
         m = re.match(r"^\s+(?:pub\s+)?(" + WORD + r")\s*:(?:\s|$)", line)
-        if m and inside:
+        if m:
             yield m[1], "term"
 
 
@@ -58,10 +59,15 @@ def respelled(name):
 
 def table(root):
     names = set()
-    for path in files(root, ".antt"):
+    for path in files(root, (".antt", ".rt")):
         with open(path, encoding="utf-8") as f:
-            for name, _ in declared(f.read(), path.endswith(GENERATED)):
-                names.add(name)
+            text = f.read()
+        if path.endswith(".antt"):
+            found = declared(text, path.endswith(GENERATED))
+        else:
+            found = ((alias, "term") for alias in re.findall(r"\sas ([\w'-]+)(?=[,}])", text))
+        for name, _ in found:
+            names.add(name)
     turn = {n: respelled(n) for n in names if respelled(n) != n}
     back = {}
     for name in sorted(names):

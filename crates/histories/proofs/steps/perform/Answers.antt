@@ -7,9 +7,9 @@ use Rattle.histories.proofs.steps.perform.Goals as goal
 
 pub returns-in-Take : goal.returns-in-Take
 returns-in-Take g c =
-    subst (λ p. GoesOn g.K.Total.kind (call_of g.K.Total.kind (map g.K.Total.columns c.args.totals.now) (length c.args.work.now) p) (state_of g.S.Shelf.slots g.S.Shelf.outside c.args.sheet.now) (state_of g.S.Shelf.slots g.S.Shelf.outside c.take-part.new.sheet) c.args.work.now c.take-part.new.work)
+    subst (λ p. GoesOn g.K.Total.kind (call_of g.K.Total.kind (map g.K.Total.columns c.args.totals.now) (length c.args.work.now) p) (state_of g.S.Shelf.slots g.S.Shelf.outside c.args.sheet.now) (state_of g.S.Shelf.slots g.S.Shelf.outside c.take_part.new.sheet) c.args.work.now c.take_part.new.work)
     (sym c.in-Take.is)
-    c.take-part.ensures
+    c.take_part.ensures
 
 pub returns-in-Remove : goal.returns-in-Remove
 returns-in-Remove g c =
@@ -28,13 +28,13 @@ returns-in-Restore g c =
 pub returns-in-RemoveOne : goal.returns-in-RemoveOne
 returns-in-RemoveOne g c =
     let state = state_of g.S.Shelf.slots g.S.Shelf.outside in
-    subst (λ p. GoesOn g.K.Total.kind (call_of g.K.Total.kind (map g.K.Total.columns c.args.totals.now) (length c.args.work.now) p) (state c.args.sheet.now) (state c.remove-one.new.self) c.args.work.now c.args.work.now)
+    subst (λ p. GoesOn g.K.Total.kind (call_of g.K.Total.kind (map g.K.Total.columns c.args.totals.now) (length c.args.work.now) p) (state c.args.sheet.now) (state c.remove_one.new.self) c.args.work.now c.args.work.now)
     (sym c.in-RemoveOne.is)
-    (one-goes-on g.K.Total.kind (state c.args.sheet.now) (state c.remove-one.new.self) c.args.work.now Out c.in-RemoveOne.number c.args.sheet.now c.remove-one.new.self c.remove-one.result (ap state) c.remove-one.ensures.answer c.remove-one.ensures.history)
+    (one-goes-on g.K.Total.kind (state c.args.sheet.now) (state c.remove_one.new.self) c.args.work.now Out c.in-RemoveOne.number c.args.sheet.now c.remove_one.new.self c.remove_one.result (ap state) c.remove_one.ensures.answer c.remove_one.ensures.history)
 
 pub returns-in-RestoreOne : goal.returns-in-RestoreOne
 returns-in-RestoreOne g c =
     let state = state_of g.S.Shelf.slots g.S.Shelf.outside in
-    subst (λ p. GoesOn g.K.Total.kind (call_of g.K.Total.kind (map g.K.Total.columns c.args.totals.now) (length c.args.work.now) p) (state c.args.sheet.now) (state c.restore-one.new.self) c.args.work.now c.args.work.now)
+    subst (λ p. GoesOn g.K.Total.kind (call_of g.K.Total.kind (map g.K.Total.columns c.args.totals.now) (length c.args.work.now) p) (state c.args.sheet.now) (state c.restore_one.new.self) c.args.work.now c.args.work.now)
     (sym c.in-RestoreOne.is)
-    (one-goes-on g.K.Total.kind (state c.args.sheet.now) (state c.restore-one.new.self) c.args.work.now In c.in-RestoreOne.number c.args.sheet.now c.restore-one.new.self c.restore-one.result (ap state) c.restore-one.ensures.answer c.restore-one.ensures.history)
+    (one-goes-on g.K.Total.kind (state c.args.sheet.now) (state c.restore_one.new.self) c.args.work.now In c.in-RestoreOne.number c.args.sheet.now c.restore_one.new.self c.restore_one.result (ap state) c.restore_one.ensures.answer c.restore_one.ensures.history)

@@ -8,16 +8,16 @@ pub loop-next-preserved : goal.loop-next-preserved
 loop-next-preserved g c =
     let cut : lines c.loop-next.left.now ≡ c.cut.result.0.now ∷ lines c.in-Some.next.now = rw c.in-Some.is at c.cut.ensures.in_parts in
     let all : length c.loop-next.left.now ≡ length c.cut.result.0.now + suc (length c.in-Some.next.now) = rw c.in-Some.is at c.cut.ensures.in_all in (
-      line_read g.K.Total.kind g.K.Total.columns c.args.totals.now c.loop-next.totals c.keep.new.totals _ (fields c.args.names.now) c.loop-next.days c.loop-next.at c.loop-next.left.now c.cut.result.0.now c.in-Some.next.now c.read_line.result c.in-ok-total.total cut c.read_line.ensures.answer c.in-ok-total.was c.keep.ensures c.loop-next.invariant.0,
+      line_read g.K.Total.kind g.K.Total.columns c.args.totals.now c.loop-next.totals c.keep.new.totals _ (fields c.args.names.now) c.loop-next.days c.loop-next.at c.loop-next.left.now c.cut.result.0.now c.in-Some.next.now c.read_line.result c.in_ok-total.total cut c.read_line.ensures.answer c.in_ok-total.was c.keep.ensures c.loop-next.invariant.0,
       omega arith,
       omega arith,
     )
 
-pub returns-in-err-total : goal.returns-in-err-total
-returns-in-err-total g c =
+pub returns-in_err-total : goal.returns-in_err-total
+returns-in_err-total g c =
     let cut : lines c.loop-next.left.now ≡ c.cut.result.0.now ∷ lines c.in-Some.next.now = rw c.in-Some.is at c.cut.ensures.in_parts in
     let p = err_from_is_err_and c.from-residual.result c.from-residual.ensures.1 in
     rw (p.1, p.2) (
-      line-broke g.K.Total.kind g.K.Total.columns c.args.totals.now c.loop-next.totals _ (fields c.args.names.now) c.loop-next.days c.loop-next.at c.loop-next.left.now c.cut.result.0.now c.in-Some.next.now c.read_line.result c.in-err-total.field-0.0 cut c.read_line.ensures.answer c.in-err-total.was c.loop-next.invariant.0,
-      c.in-err-total.ensures.place,
+      line-broke g.K.Total.kind g.K.Total.columns c.args.totals.now c.loop-next.totals _ (fields c.args.names.now) c.loop-next.days c.loop-next.at c.loop-next.left.now c.cut.result.0.now c.in-Some.next.now c.read_line.result c.in_err-total.field-0.0 cut c.read_line.ensures.answer c.in_err-total.was c.loop-next.invariant.0,
+      c.in_err-total.ensures.place,
     )

@@ -5,16 +5,16 @@ use Rattle.sheets.specs.Takes.{State}
 use Rattle.report.proofs.SplitFacts.{not_refused, pulses-written}
 use Rattle.report.proofs.report.pulses_of.Goals as goal
 
-pub split-and-write-requires : goal.split-and-write-requires
-split-and-write-requires g c =
-    let xs = map g.K.Total.columns (take c.in-ok-days.days c.read-trace.new.totals) in
+pub split_and_write-requires : goal.split_and_write-requires
+split_and_write-requires g c =
+    let xs = map g.K.Total.columns (take c.in_ok-days.days c.read_trace.new.totals) in
     let capacity : length (shown_rows g.K.Total.kind g.K.Total.columns c.new-sheet.result.shelf.rows.now) ≡ length c.args.rows.now =
     ap (λ (s : State). length s.slots) c.new-sheet.ensures.answer ∙ (ap length c.over.ensures.slots ∙ length-map c.args.rows.now (shown g.K.Total.kind g.K.Total.columns)) in
     record {
-      within = c.in-ok-days.ensures.answer.1;
+      within = c.in_ok-days.ensures.answer.1;
       begun = c.new-sheet.ensures.history.shows;
       accepted =
-          not_refused g.K.Total.kind c.args.text.now (length c.args.totals.now) xs c.requires.totals c.in-ok-days.ensures.answer.0 (length c.args.work.now)
+          not_refused g.K.Total.kind c.args.text.now (length c.args.totals.now) xs c.requires.totals c.in_ok-days.ensures.answer.0 (length c.args.work.now)
           (length (shown_rows g.K.Total.kind g.K.Total.columns c.new-sheet.result.shelf.rows.now))
           c.requires.work
           (omega (arith, capacity, c.requires.rows));
@@ -22,5 +22,5 @@ split-and-write-requires g c =
 
 pub returns : goal.returns
 returns g c =
-    let xs = map g.K.Total.columns (take c.in-ok-days.days c.read-trace.new.totals) in
-    pulses-written g.K.Total.kind c.args.text.now (length c.args.totals.now) xs c.requires.totals c.in-ok-days.ensures.answer.0 c.args.out.now c.split-and-write.new.out c.split-and-write.result c.split-and-write.ensures
+    let xs = map g.K.Total.columns (take c.in_ok-days.days c.read_trace.new.totals) in
+    pulses-written g.K.Total.kind c.args.text.now (length c.args.totals.now) xs c.requires.totals c.in_ok-days.ensures.answer.0 c.args.out.now c.split_and_write.new.out c.split_and_write.result c.split_and_write.ensures

@@ -4,32 +4,32 @@ use Rattle.sheets.specs.Takes.{state_of}
 use Rattle.report.proofs.SplitFacts.{taken-never, taken-on, due-ok, due-err}
 use Rattle.report.proofs.report.split_and_write.Goals as goal
 
-pub returns-in-err-in-taking : goal.returns-in-err-in-taking
-returns-in-err-in-taking g c =
+pub returns-in_err-in_taking : goal.returns-in_err-in_taking
+returns-in_err-in_taking g c =
     let s = state_of g.S.Shelf.slots g.S.Shelf.outside c.args.sheet.now in
-    let t = state_of g.S.Shelf.slots g.S.Shelf.outside c.take-front.new.sheet in
+    let t = state_of g.S.Shelf.slots g.S.Shelf.outside c.take_front.new.sheet in
     let xs = map g.K.Total.columns (take c.args.days c.args.totals.now) in
-    absurd (taken-never g.K.Total.kind xs (length c.args.work.now) s t c.take-front.result c.take-front.ensures _ c.requires.accepted c.in-err-in-taking.ensures)
+    absurd (taken-never g.K.Total.kind xs (length c.args.work.now) s t c.take_front.result c.take_front.ensures _ c.requires.accepted c.in_err-in_taking.ensures)
 
-pub write-sheet-requires : goal.write-sheet-requires
-write-sheet-requires g c =
+pub write_sheet-requires : goal.write_sheet-requires
+write_sheet-requires g c =
     let s = state_of g.S.Shelf.slots g.S.Shelf.outside c.args.sheet.now in
-    let t = state_of g.S.Shelf.slots g.S.Shelf.outside c.take-front.new.sheet in
+    let t = state_of g.S.Shelf.slots g.S.Shelf.outside c.take_front.new.sheet in
     let xs = map g.K.Total.columns (take c.args.days c.args.totals.now) in
-    taken-on g.K.Total.kind xs (length c.args.work.now) s t c.take-front.result c.take-front.ensures _ c.in-ok-in-taking.ensures c.requires.begun
+    taken-on g.K.Total.kind xs (length c.args.work.now) s t c.take_front.result c.take_front.ensures _ c.in_ok-in_taking.ensures c.requires.begun
 
-pub returns-in-err-bytes : goal.returns-in-err-bytes
-returns-in-err-bytes g c =
+pub returns-in_err-bytes : goal.returns-in_err-bytes
+returns-in_err-bytes g c =
     let s = state_of g.S.Shelf.slots g.S.Shelf.outside c.args.sheet.now in
-    let t = state_of g.S.Shelf.slots g.S.Shelf.outside c.take-front.new.sheet in
+    let t = state_of g.S.Shelf.slots g.S.Shelf.outside c.take_front.new.sheet in
     let xs = map g.K.Total.columns (take c.args.days c.args.totals.now) in
-    let p = err_from_is_err_and c.from-residual-in-err-bytes.result c.from-residual-in-err-bytes.ensures.1 in
+    let p = err_from_is_err_and c.from-residual-in_err-bytes.result c.from-residual-in_err-bytes.ensures.1 in
     rw (p.1, p.2)
-    (due-err g.K.Total.kind xs (length c.args.work.now) s t c.take-front.result c.take-front.ensures _ c.in-ok-in-taking.ensures c.args.out.now c.write-sheet.new.out c.write-sheet.result _ c.write-sheet.ensures c.in-err-bytes.ensures)
+    (due-err g.K.Total.kind xs (length c.args.work.now) s t c.take_front.result c.take_front.ensures _ c.in_ok-in_taking.ensures c.args.out.now c.write_sheet.new.out c.write_sheet.result _ c.write_sheet.ensures c.in_err-bytes.ensures)
 
 pub returns : goal.returns
 returns g c =
     let s = state_of g.S.Shelf.slots g.S.Shelf.outside c.args.sheet.now in
-    let t = state_of g.S.Shelf.slots g.S.Shelf.outside c.take-front.new.sheet in
+    let t = state_of g.S.Shelf.slots g.S.Shelf.outside c.take_front.new.sheet in
     let xs = map g.K.Total.columns (take c.args.days c.args.totals.now) in
-    due-ok g.K.Total.kind xs (length c.args.work.now) s t c.take-front.result c.take-front.ensures _ c.in-ok-in-taking.ensures c.args.out.now c.write-sheet.new.out c.write-sheet.result _ c.write-sheet.ensures c.in-ok-bytes.ensures
+    due-ok g.K.Total.kind xs (length c.args.work.now) s t c.take_front.result c.take_front.ensures _ c.in_ok-in_taking.ensures c.args.out.now c.write_sheet.new.out c.write_sheet.result _ c.write_sheet.ensures c.in_ok-bytes.ensures

@@ -8,5 +8,5 @@ use Rattle.report.proofs.report.write_sheet.Goals as goal
 pub returns-in-Err : goal.returns-in-Err
 returns-in-Err g c =
     let s = state_of g.S.Shelf.slots g.S.Shelf.outside c.args.sheet.now in
-    subst (λ e. Reported (sheet_text g.K.Total.kind s) c.args.out.now c.write-pulses.new.out (Err e)) (sym c.refusal_in.ensures)
-    (write_stop g.K.Total.kind s c.args.out.now c.write-pulses.new.out c.in-Err.stop c.requires c.in-Err.ensures.answer)
+    subst (λ e. Reported (sheet_text g.K.Total.kind s) c.args.out.now c.write_pulses.new.out (Err e)) (sym c.refusal_in.ensures)
+    (write_stop g.K.Total.kind s c.args.out.now c.write_pulses.new.out c.in-Err.stop c.requires c.in-Err.ensures.answer)

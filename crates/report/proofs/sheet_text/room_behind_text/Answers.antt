@@ -13,7 +13,7 @@ returns-in-Some g c =
     let s = state_of g.S.Shelf.slots g.S.Shelf.outside c.args.sheet.now in
     let names = line letters (pulse_names g.K.Total.kind) in
     let rows = row_lines g.K.Total.kind s.count s.slots in
-    room_behind g.K.Total.kind s (length names) (length rows) _ c.args.room c.in-Some.left c.room-behind-lines.result (length-append names rows) c.in-Some.ensures c.room-behind-lines.ensures
+    room_behind g.K.Total.kind s (length names) (length rows) _ c.args.room c.in-Some.left c.room_behind_lines.result (length-append names rows) c.in-Some.ensures c.room_behind_lines.ensures
 
 pub returns-in-None : goal.returns-in-None
 returns-in-None g c =

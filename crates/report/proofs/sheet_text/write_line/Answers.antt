@@ -4,17 +4,17 @@ use Rattle.report.specs.PulseTexts.{slot_line}
 use Rattle.report.proofs.TextFacts.{listed_line, line_written, part_stop}
 use Rattle.report.proofs.sheet_text.write_line.Goals as goal
 
-pub returns-in-Ok-write-pulse : goal.returns-in-Ok-write-pulse
-returns-in-Ok-write-pulse g c =
+pub returns-in-Ok-write_pulse : goal.returns-in-Ok-write_pulse
+returns-in-Ok-write_pulse g c =
     let s = state_of g.S.Shelf.slots g.S.Shelf.outside c.args.sheet.now in
     let e = listed_line g.K.Total.kind g.K.Total.columns s c.args.number c.in-Ok.pulse c.state_of.result c.in-Ok.ensures c.state_of.ensures in
-    line_written c.args.text.at c.in-Ok-write-pulse.more.at _ _ c.args.out.now c.write-pulse.new.out e c.in-Ok-write-pulse.ensures.0 c.in-Ok-write-pulse.ensures.1
+    line_written c.args.text.at c.in-Ok-write_pulse.more.at _ _ c.args.out.now c.write_pulse.new.out e c.in-Ok-write_pulse.ensures.0 c.in-Ok-write_pulse.ensures.1
 
-pub returns-in-Err-write-pulse : goal.returns-in-Err-write-pulse
-returns-in-Err-write-pulse g c =
+pub returns-in-Err-write_pulse : goal.returns-in-Err-write_pulse
+returns-in-Err-write_pulse g c =
     let s = state_of g.S.Shelf.slots g.S.Shelf.outside c.args.sheet.now in
     let e = listed_line g.K.Total.kind g.K.Total.columns s c.args.number c.in-Ok.pulse c.state_of.result c.in-Ok.ensures c.state_of.ensures in
-    absurd (omega (arith, ap length e, c.requires.1.1, c.in-Err-write-pulse.ensures.2))
+    absurd (omega (arith, ap length e, c.requires.1.1, c.in-Err-write_pulse.ensures.2))
 
 pub returns-in-Err : goal.returns-in-Err
 returns-in-Err g c =

@@ -10,8 +10,8 @@ loop-done-init g c =
     let e = rows_none g.K.Total.kind (state_of g.S.Shelf.slots g.S.Shelf.outside c.args.sheet.now).slots in
     (sym (ap (λ bs. pasted c.args.named.at bs c.args.out.now) e ∙ pasted_none c.args.named.at c.args.out.now), omega (arith, ap length e))
 
-pub write-line-requires : goal.write-line-requires
-write-line-requires g c =
+pub write_line-requires : goal.write_line-requires
+write_line-requires g c =
     let s = state_of g.S.Shelf.slots g.S.Shelf.outside c.args.sheet.now in
     let m = rows_longer g.K.Total.kind s.slots c.loop-done.done in
     let w = rows_within g.K.Total.kind s.slots (c.loop-done.done + 1) s.count (omega (arith, c.pulses-count.ensures)) in
@@ -19,7 +19,7 @@ write-line-requires g c =
 
 pub loop-done-preserved : goal.loop-done-preserved
 loop-done-preserved g c =
-    write_more g.K.Total.kind (state_of g.S.Shelf.slots g.S.Shelf.outside c.args.sheet.now).slots c.loop-done.done c.args.named.at c.loop-done.text.at c.in-Ok.more.at c.args.out.now c.loop-done.out c.write-line.new.out
+    write_more g.K.Total.kind (state_of g.S.Shelf.slots g.S.Shelf.outside c.args.sheet.now).slots c.loop-done.done c.args.named.at c.loop-done.text.at c.in-Ok.more.at c.args.out.now c.loop-done.out c.write_line.new.out
     (omega arith)
     c.loop-done.invariant.0
     c.loop-done.invariant.1
@@ -28,7 +28,7 @@ loop-done-preserved g c =
 
 pub returns-in-Err : goal.returns-in-Err
 returns-in-Err g c =
-    lines_stop g.K.Total.kind (state_of g.S.Shelf.slots g.S.Shelf.outside c.args.sheet.now) c.loop-done.done c.args.named.at c.loop-done.text.at c.args.out.now c.loop-done.out c.write-line.new.out c.in-Err.stop
+    lines_stop g.K.Total.kind (state_of g.S.Shelf.slots g.S.Shelf.outside c.args.sheet.now) c.loop-done.done c.args.named.at c.loop-done.text.at c.args.out.now c.loop-done.out c.write_line.new.out c.in-Err.stop
     (omega (arith, c.pulses-count.ensures, c.loop-done-test.true))
     (omega arith)
     c.loop-done.invariant.0

@@ -6,15 +6,15 @@ use Rattle.sheets.proofs.calls.mark_one.Goals as goal
 
 pub returns : goal.returns
 returns g c = record {
-  answer = c.change-one.ensures;
+  answer = c.change_one.ensures;
   history =
-      continues g.K.Total.kind g.met.K.Total.lawful _ _ _ c.change-one.result
+      continues g.K.Total.kind g.met.K.Total.lawful _ _ _ c.change_one.result
       (one-shows g.K.Total.kind g.met.K.Total.lawful c.args.mark c.args.number
       (state_of g.S.Shelf.slots g.S.Shelf.outside c.args.sheet.now)
-      (state_of g.S.Shelf.slots g.S.Shelf.outside c.change-one.new.sheet)
+      (state_of g.S.Shelf.slots g.S.Shelf.outside c.change_one.new.sheet)
       c.args.sheet.now
-      c.change-one.new.sheet
-      c.change-one.result
+      c.change_one.new.sheet
+      c.change_one.result
       (ap (state_of g.S.Shelf.slots g.S.Shelf.outside))
-      c.change-one.ensures);
+      c.change_one.ensures);
 }

@@ -6,15 +6,15 @@ use Rattle.sheets.proofs.calls.mark_range.Goals as goal
 
 pub returns : goal.returns
 returns g c = record {
-  answer = c.change-range.ensures;
+  answer = c.change_range.ensures;
   history =
-      continues g.K.Total.kind g.met.K.Total.lawful _ _ _ c.change-range.result
+      continues g.K.Total.kind g.met.K.Total.lawful _ _ _ c.change_range.result
       (range-shows g.K.Total.kind g.met.K.Total.lawful c.args.mark c.args.low c.args.high
       (state_of g.S.Shelf.slots g.S.Shelf.outside c.args.sheet.now)
-      (state_of g.S.Shelf.slots g.S.Shelf.outside c.change-range.new.sheet)
+      (state_of g.S.Shelf.slots g.S.Shelf.outside c.change_range.new.sheet)
       c.args.sheet.now
-      c.change-range.new.sheet
-      c.change-range.result
+      c.change_range.new.sheet
+      c.change_range.result
       (ap (state_of g.S.Shelf.slots g.S.Shelf.outside))
-      c.change-range.ensures);
+      c.change_range.ensures);
 }

@@ -6,17 +6,17 @@ use Rattle.sheets.proofs.calls.take_on.Goals as goal
 
 pub returns : goal.returns
 returns g c = record {
-  answer = c.take-record.ensures;
+  answer = c.take_record.ensures;
   history =
-      continues g.K.Total.kind g.met.K.Total.lawful _ _ _ c.take-record.result
+      continues g.K.Total.kind g.met.K.Total.lawful _ _ _ c.take_record.result
       (take-shows g.K.Total.kind g.met.K.Total.lawful (map g.K.Total.columns c.args.totals.now) (length c.args.work.now)
       (state_of g.S.Shelf.slots g.S.Shelf.outside c.args.sheet.now)
-      (state_of g.S.Shelf.slots g.S.Shelf.outside c.take-record.new.self)
+      (state_of g.S.Shelf.slots g.S.Shelf.outside c.take_record.new.self)
       c.args.sheet.now
-      c.take-record.new.self
+      c.take_record.new.self
       c.args.work.now
-      c.take-record.new.work
-      c.take-record.result
+      c.take_record.new.work
+      c.take_record.result
       (ap (state_of g.S.Shelf.slots g.S.Shelf.outside))
-      c.take-record.ensures);
+      c.take_record.ensures);
 }

@@ -6,10 +6,10 @@ returns g c = record {
   slots =
       one_marked_by_number g.K.Total.kind c.args.mark c.args.number c.args.count
       (g.S.Shelf.slots c.args.shelf.now)
-      (g.S.Shelf.slots c.mark-slot.new.shelf)
-      c.mark-slot.result
+      (g.S.Shelf.slots c.mark_slot.new.shelf)
+      c.mark_slot.result
       c.requires.0
       c.requires.1
-      c.mark-slot.ensures.slots;
-  outside = c.mark-slot.ensures.outside;
+      c.mark_slot.ensures.slots;
+  outside = c.mark_slot.ensures.outside;
 }

@@ -11,5 +11,5 @@ loop-slot-init g c = (marked-none g.K.Total.kind (marking c.args.mark c.args.low
 pub loop-slot-preserved : goal.loop-slot-preserved
 loop-slot-preserved g c =
     let m = c.loop-slot.invariant in
-    let n = marked_more g.K.Total.kind (marking c.args.mark c.args.low c.args.high) _ _ _ _ _ _ m.0 m.1 c.in-ok-changed.ensures.slots in
-    (n.0, n.1, omega (arith, n.2, m.2), c.mark-within.ensures.outside ∙ m.3)
+    let n = marked_more g.K.Total.kind (marking c.args.mark c.args.low c.args.high) _ _ _ _ _ _ m.0 m.1 c.in_ok-changed.ensures.slots in
+    (n.0, n.1, omega (arith, n.2, m.2), c.mark_within.ensures.outside ∙ m.3)

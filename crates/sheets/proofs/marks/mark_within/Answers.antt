@@ -5,7 +5,7 @@ use Rattle.sheets.proofs.marks.mark_within.Goals as goal
 -- the row's width is not in the range
 pub returns-else-low-width : goal.returns-else-low-width
 returns-else-low-width g c =
-    let e = c.in-ok-row.ensures in
+    let e = c.in_ok-row.ensures in
     record {
       slots =
           outside_range g.K.Total.kind c.args.mark c.args.low c.args.high c.args.slot _ _ _ _ _ e.1 e.2

@@ -7,5 +7,5 @@ returns g c =
     total_comes g.K.Total.kind g.met.K.Total.lawful g.K.Total.columns
     (state_of g.S.Shelf.slots g.S.Shelf.outside c.args.sheet.now)
     c.args.day
-    c.standing-on.result
-    c.standing-on.ensures
+    c.standing_on.result
+    c.standing_on.ensures

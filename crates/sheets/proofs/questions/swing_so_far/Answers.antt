@@ -19,15 +19,15 @@ loop-day-preserved g c =
     let s : State = state_of g.S.Shelf.slots g.S.Shelf.outside c.args.sheet.now in
     let m = c.loop-day.invariant in
     let t = c.in-Ok.ensures ∙ sym (days_inside g.K.Total.kind s.days (standing_total g.K.Total.kind s) c.loop-day.day c.loop-day-test.true) in
-    (t, step_more g.K.Total.kind s c.loop-day.day _ _ _ _ m.1 m.0 t c.in-Ok-with-step.ensures)
+    (t, step_more g.K.Total.kind s c.loop-day.day _ _ _ _ m.1 m.0 t c.in-Ok-with_step.ensures)
 
-pub returns-in-Err-with-step : goal.returns-in-Err-with-step
-returns-in-Err-with-step g c =
+pub returns-in-Err-with_step : goal.returns-in-Err-with_step
+returns-in-Err-with_step g c =
     let s : State = state_of g.S.Shelf.slots g.S.Shelf.outside c.args.sheet.now in
     let m = c.loop-day.invariant in
     let t = c.in-Ok.ensures ∙ sym (days_inside g.K.Total.kind s.days (standing_total g.K.Total.kind s) c.loop-day.day c.loop-day-test.true) in
-    swing_stops g.K.Total.kind g.met.K.Total.lawful g.K.Total.columns s c.loop-day.day _ _ _ c.in-Err-with-step.stop
-    (omega (arith, c.loop-day-test.true)) m.1 m.0 t c.in-Err-with-step.ensures
+    swing_stops g.K.Total.kind g.met.K.Total.lawful g.K.Total.columns s c.loop-day.day _ _ _ c.in-Err-with_step.stop
+    (omega (arith, c.loop-day-test.true)) m.1 m.0 t c.in-Err-with_step.ensures
 
 pub returns : goal.returns
 returns g c =

@@ -8,10 +8,10 @@ use Rattle.sheets.proofs.standing.with_row.Goals.{else-row-eq0-via-then-row-eq0+
 -- the row adds its amount
 pub returns-then-covered : goal.returns-then-covered
 returns-then-covered g c =
-    comes_same g.K.Total.kind g.K.Total.columns _ _ c.with-amount.result
+    comes_same g.K.Total.kind g.K.Total.columns _ _ c.with_amount.result
     (ap (plus g.K.Total.kind.arity (g.K.Total.columns c.args.sum))
     (sym (row-adds g.K.Total.kind c.args.row.first c.args.row.width (g.K.Total.columns c.args.row.amount) c.args.day c.args.row.mark c.if-row-eq0.true (sym c.if-covered.ensures))))
-    c.with-amount.ensures
+    c.with_amount.ensures
 
 -- it adds nothing
 pub returns-else-row-eq0 : goal.returns-else-row-eq0

@@ -8,17 +8,17 @@ use Rattle.shelves.proofs.Packs.{length_packed}
 use Rattle.shelves.proofs.Shown.{length_shown, no_slot, past-put, shown-put}
 use Rattle.shelves.proofs.byte_shelf.put_packed.Goals as goal
 
-pub returns-then-slot-slots-in : goal.returns-then-slot-slots-in
-returns-then-slot-slots-in g c =
+pub returns-then-slot-slots_in : goal.returns-then-slot-slots_in
+returns-then-slot-slots_in g c =
     let k = g.K.Total.kind in
     let columns = g.K.Total.columns in
     let row = c.args.row.now in
     let bytes = c.args.bytes.now in
-    let n = c.slot-size-size.result in
-    let at = c.start-of-at.result in
-    let is : c.slots-in.result ≡ whole k.arity bytes = c.slots-in.ensures ∙ ap (λ n. length bytes / n) c.slot-size-size.ensures in
+    let n = c.slot_size-size.result in
+    let at = c.start_of-at.result in
+    let is : c.slots_in.result ≡ whole k.arity bytes = c.slots_in.ensures ∙ ap (λ n. length bytes / n) c.slot_size-size.ensures in
     let below : c.args.slot < whole k.arity bytes = omega arith in
-    let from : at ≡ c.args.slot * size k.arity = c.start-of-at.ensures ∙ ap (λ n. c.args.slot * n) c.slot-size-size.ensures in
+    let from : at ≡ c.args.slot * size k.arity = c.start_of-at.ensures ∙ ap (λ n. c.args.slot * n) c.slot_size-size.ensures in
     let wide : (at + n) - at ≡ length (packed k columns row) = omega (arith, length_packed k columns row) in
     let left : put_mid at ((at + n) - at) bytes c.pack.new.slot ≡ overwritten bytes (c.args.slot * size k.arity) (packed k columns row) = put_is bytes c.pack.new.slot (packed k columns row) at _ _ from wide c.pack.ensures.bytes in
     record {
@@ -28,11 +28,11 @@ returns-then-slot-slots-in g c =
       bytes = λ _. left;
     }
 
-pub returns-else-slot-slots-in : goal.returns-else-slot-slots-in
-returns-else-slot-slots-in g c =
+pub returns-else-slot-slots_in : goal.returns-else-slot-slots_in
+returns-else-slot-slots_in g c =
     let k = g.K.Total.kind in
     let bytes = c.args.bytes.now in
-    let is : c.slots-in.result ≡ whole k.arity bytes = c.slots-in.ensures ∙ ap (λ n. length bytes / n) c.slot-size-size.ensures in
+    let is : c.slots_in.result ≡ whole k.arity bytes = c.slots_in.ensures ∙ ap (λ n. length bytes / n) c.slot_size-size.ensures in
     let none : length (shown_bytes k bytes) ≤ c.args.slot = omega (arith, length_shown k bytes) in
     let same = set_past (shown_bytes k bytes) c.args.slot (shown k g.K.Total.columns c.args.row.now) none in
     record {

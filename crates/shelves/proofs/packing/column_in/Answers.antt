@@ -6,7 +6,7 @@ use Rattle.shelves.proofs.packing.column_in.Goals as goal
 
 pub returns : goal.returns
 returns c =
-    to_z-of_z w64 c.from-le-bytes.result (record { sfits = c.from-le-bytes.type-inv })
-    ∙ (c.from-le-bytes.ensures
-    ∙ (ap (to_z w64) (little_eight c.copy-from-slice.new.self c.copy-from-slice.ensures.len)
-    ∙ ap signed c.copy-from-slice.ensures.after))
+    to_z-of_z w64 c.from_le_bytes.result (record { sfits = c.from_le_bytes.type_inv })
+    ∙ (c.from_le_bytes.ensures
+    ∙ (ap (to_z w64) (little_eight c.copy_from_slice.new.self c.copy_from_slice.ensures.len)
+    ∙ ap signed c.copy_from_slice.ensures.after))

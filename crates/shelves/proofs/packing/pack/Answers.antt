@@ -10,14 +10,14 @@ pub returns : goal.returns
 unfolding packed
 returns g c =
     let row = c.args.row.now in
-    let front = c.copy-from-slice.new.self in
-    let head : front ≡ packed_head row.first row.width row.mark = c.copy-from-slice.ensures.after ∙ c.head.ensures.bytes in
+    let front = c.copy_from_slice.new.self in
+    let head : front ≡ packed_head row.first row.width row.mark = c.copy_from_slice.ensures.after ∙ c.head.ensures.bytes in
     let eight : length front ≡ 8 = ap length head in
     let back = post_of 0 8 c.args.slot.now in
     let long : length back ≤ length (front ++ back) - 8 = simp length-append (omega arith) in
     record {
-      bytes = rest_filled front back c.write-columns.new.bytes 8 _ eight long
-          ∙ (ap (λ t. t ++ c.write-columns.new.bytes) head
-          ∙ ap (λ t. packed_head row.first row.width row.mark ++ t) c.write-columns.ensures);
+      bytes = rest_filled front back c.write_columns.new.bytes 8 _ eight long
+          ∙ (ap (λ t. t ++ c.write_columns.new.bytes) head
+          ∙ ap (λ t. packed_head row.first row.width row.mark ++ t) c.write_columns.ensures);
       shows = unpacked_packed g.K.Total.kind g.K.Total.columns row g.met.K.Total.lawful (g.met.K.Total.held row.amount) c.head.ensures.fits.0 c.head.ensures.fits.1;
     }

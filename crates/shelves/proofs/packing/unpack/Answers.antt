@@ -3,15 +3,15 @@ use Rattle.std.proofs.lemmas.Bool.{and_parts, leb-true}
 use Rattle.shelves.proofs.Unpacks.{blank_columns, blank_head, row_held}
 use Rattle.shelves.proofs.packing.unpack.Goals as goal
 
-pub returns-then-not-is-row : goal.returns-then-not-is-row
-returns-then-not-is-row g c = blank_head g.K.Total.kind c.args.slot.now (sym c.if-not-is-row.ensures)
+pub returns-then-not-is_row : goal.returns-then-not-is_row
+returns-then-not-is_row g c = blank_head g.K.Total.kind c.args.slot.now (sym c.if-not-is_row.ensures)
 
-pub returns-in-default : goal.returns-in-default
-returns-in-default g c = blank_columns g.K.Total.kind c.args.slot.now c.in-default.ensures
+pub returns-in_default : goal.returns-in_default
+returns-in_default g c = blank_columns g.K.Total.kind c.args.slot.now c.in_default.ensures
 
 pub returns : goal.returns
 returns g c =
-    let row = sym c.if-not-is-row.ensures in
+    let row = sym c.if-not-is_row.ensures in
     let long : 8 ≤ length c.args.slot.now = omega arith in (
       leb-true _ _ (and_parts _ _ row).0,
       row_held g.K.Total.kind g.K.Total.columns c.args.slot.now _ row long

@@ -5,22 +5,22 @@ use Rattle.shelves.specs.Slots.{shown, shown_rows}
 use Rattle.shelves.proofs.Blanks.{blank_mark}
 use Rattle.shelves.proofs.row_shelf.read_row.Goals as goal
 
-pub returns-then-is-mark : goal.returns-then-is-mark
-returns-then-is-mark g c =
+pub returns-then-is_mark : goal.returns-then-is_mark
+returns-then-is_mark g c =
     let f = shown g.K.Total.kind g.K.Total.columns in (
       simp length-map (omega arith),
       (
-        leb-true _ _ (sym c.if-is-mark.ensures),
+        leb-true _ _ (sym c.if-is_mark.ensures),
         get_or-map f c.args.rows.now c.args.slot c.index-rows-slot.result None c.if-slot-rows.true ∙ ap f (sym c.index-rows-slot.is),
       ),
     )
 
-pub returns-else-is-mark : goal.returns-else-is-mark
-returns-else-is-mark g c =
+pub returns-else-is_mark : goal.returns-else-is_mark
+returns-else-is_mark g c =
     let f = shown g.K.Total.kind g.K.Total.columns in (
       simp length-map (omega arith),
       get_or-map f c.args.rows.now c.args.slot c.index-rows-slot.result None c.if-slot-rows.true
-          ∙ (ap f (sym c.index-rows-slot.is) ∙ blank_mark _ _ _ _ (leb-false _ _ (sym c.if-is-mark.ensures))),
+          ∙ (ap f (sym c.index-rows-slot.is) ∙ blank_mark _ _ _ _ (leb-false _ _ (sym c.if-is_mark.ensures))),
     )
 
 pub returns-else-slot-rows : goal.returns-else-slot-rows

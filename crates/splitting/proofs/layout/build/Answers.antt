@@ -20,8 +20,8 @@ loop-total-preserved g c =
     let A = c.extended-at.ensures (suc (length c.args.totals.now)) x c.loop-total.invariant.1 c.loop-total.invariant.2 (sym at ∙ ap x (omega arith)) (omega arith) in
     (omega arith, rw e A.0, A.1)
 
-pub set-run-requires : goal.set-run-requires
-set-run-requires g c =
+pub set_run-requires : goal.set_run-requires
+set_run-requires g c =
     let xs = map g.K.Total.columns c.args.totals.now in
     let x : Trace g.K.Total.kind = trace g.K.Total.kind xs in
     let zero = (trace_outside g.K.Total.kind xs).1 (suc c.loop-total.day) (simp length-map (omega arith)) in
@@ -39,7 +39,7 @@ returns g c =
     let A = c.extended-at-2.ensures m x c.loop-total.invariant.1 c.loop-total.invariant.2 (c.outside.ensures ∙ sym zero) (omega arith) in
     let B = rw e at A.0 in
     record {
-      knows = rw (c.set-run.ensures, f, A.1) (laid_known m x _ _ _ B);
-      marks = rw c.set-run.ensures (laid_marks g.K.Total.kind g.met.K.Total.lawful m x _ _ _ B);
+      knows = rw (c.set_run.ensures, f, A.1) (laid_known m x _ _ _ B);
+      marks = rw c.set_run.ensures (laid_marks g.K.Total.kind g.met.K.Total.lawful m x _ _ _ B);
       few = B.few;
     }

@@ -9,6 +9,6 @@ pub returns : goal.returns
 returns g c = λ m x A t u h.
     let e : c.args.day + 1 ≡ suc c.args.day = omega arith in
     let f : c.args.at.marks + 1 ≡ suc c.args.at.marks = omega arith in (
-      rw (c.set-mark.ensures, c.set-run.ensures, e, f, t) (laid-changed m x _ _ _ _ A h (λ q. c.if-same.ensures (t ∙ (q ∙ sym u)))),
+      rw (c.set_mark.ensures, c.set_run.ensures, e, f, t) (laid-changed m x _ _ _ _ A h (λ q. c.if-same.ensures (t ∙ (q ∙ sym u)))),
       u ∙ ap x (sym e),
     )

@@ -12,8 +12,8 @@ use Rattle.splitting.proofs.levelling.level_width.Goals.{then-first-at, else-fir
 pub loop-number-init : goal.loop-number-init
 loop-number-init g c = (λ b a R. (ready-midway _ g.met.K.Total.lawful _ _ _ _ _ b a R, added_none _ _ _ _ _), omega arith, refl)
 
-pub mark-at-first-requires : goal.mark-at-first-requires
-mark-at-first-requires g c = omega (arith, c.requires.stands.2.few)
+pub mark_at-first-requires : goal.mark_at-first-requires
+mark_at-first-requires g c = omega (arith, c.requires.stands.2.few)
 
 pub visit-at-requires : goal.visit-at-requires
 visit-at-requires g c =
@@ -35,7 +35,7 @@ visit-at-requires g c =
           mid = (c.loop-number.invariant.0 _ _ R).0;
           here = c.loop-number-test.true;
           few = R.few;
-          marked = sym c.mark-at-first.ensures;
+          marked = sym c.mark_at-first.ensures;
           past = c.if-first-at.true;
         },
       );
@@ -57,7 +57,7 @@ loop-number-preserved g c =
                   mid = I.0;
                   here = c.loop-number-test.true;
                   few = R.few;
-                  marked = sym c.mark-at-first.ensures;
+                  marked = sym c.mark_at-first.ensures;
                   past = w.if-first-at.true;
                 }) in
                 (rw e S.0, added_then _ _ _ _ _ _ _ _ _ _ _ I.1 S.1),
@@ -70,7 +70,7 @@ loop-number-preserved g c =
             λ b a R.
                 let I = c.loop-number.invariant.0 b a R in
                 let l = w.if-first-at.false in
-                let q = c.mark-at-first.ensures in (
+                let q = c.mark_at-first.ensures in (
                   rw e (skipped (aimed g.K.Total.kind c.args.pass.down) (aimed_lawful _ g.met.K.Total.lawful c.args.pass.down) _ _ R.stage.some _ R.stage.apart (stage_outside _ c.args.pass.down _ b R.size) _ _ _ _ _ I.0 c.loop-number-test.true (omega arith)),
                   I.1,
                 ),

@@ -10,8 +10,8 @@ pub unwrap-amount-requires : goal.unwrap-amount-requires
 unwrap-amount-requires g c =
     let T = g.K.Total in
     amount_given T.kind g.met.K.Total.lawful T.columns _ _ c.difference.result
-    (rw c.total-at.ensures c.requires.4)
-    (rw (c.nearer-level.ensures, c.total-at-left.ensures, c.total-at-right.ensures)
+    (rw c.total_at.ensures c.requires.4)
+    (rw (c.nearer-level.ensures, c.total_at-left.ensures, c.total_at-right.ensures)
     (cond_both _ _ _ (λ a. within T.kind.arity T.kind.bound a ≡ true) (λ _. c.requires.6) (λ _. c.requires.5)))
     c.difference.ensures
 
@@ -19,5 +19,5 @@ pub returns : goal.returns
 returns g c =
     let K = g.K.Total.kind in
     let d = rw c.unwrap-amount.ensures at c.difference.ensures in
-    let q = rw (c.total-at.ensures, c.nearer-level.ensures, c.total-at-left.ensures, c.total-at-right.ensures) at d in
-    c.row-in.ensures ∙ ap (λ (a : Of K). row_of {K = K} (record { first = c.args.run.first; width = c.args.pass.width; amount = a })) q
+    let q = rw (c.total_at.ensures, c.nearer-level.ensures, c.total_at-left.ensures, c.total_at-right.ensures) at d in
+    c.row_in.ensures ∙ ap (λ (a : Of K). row_of {K = K} (record { first = c.args.run.first; width = c.args.pass.width; amount = a })) q

@@ -5,34 +5,34 @@ use Rattle.splitting.specs.Passes.{bump_pulse}
 use Rattle.splitting.proofs.Visits.{visit-starts, visit-order, visit-end, other-left, other-right, entered_here, entered-left, entered-right, visit-dropped, dropped-none, visit-kept, kept-none, visit-levelled, levelled-one}
 use Rattle.splitting.proofs.levelling.visit.Goals as goal
 
-pub other-at-requires : goal.other-at-requires
-other-at-requires g c =
+pub other_at-requires : goal.other_at-requires
+other_at-requires g c =
     let V = c.requires.stands.4 in
     let O = g.met.K.Total.lawful in
     omega (arith, visit-order _ O _ _ _ _ _ _ _ _ _ _ _ V, visit-end _ O _ _ _ _ _ _ _ _ _ _ _ V)
 
-pub fate-of-requires : goal.fate-of-requires
-fate-of-requires g c =
+pub fate_of-requires : goal.fate_of-requires
+fate_of-requires g c =
     let V = c.requires.stands.4 in
     let O = g.met.K.Total.lawful in
-    rw c.other-at.ensures (visit-starts _ O _ _ _ _ _ _ _ _ _ _ _ V, visit-order _ O _ _ _ _ _ _ _ _ _ _ _ V, c.requires.room, visit-end _ O _ _ _ _ _ _ _ _ _ _ _ V)
+    rw c.other_at.ensures (visit-starts _ O _ _ _ _ _ _ _ _ _ _ _ V, visit-order _ O _ _ _ _ _ _ _ _ _ _ _ V, c.requires.room, visit-end _ O _ _ _ _ _ _ _ _ _ _ _ V)
 
 pub pulse-requires : goal.pulse-requires
 pulse-requires g c =
     let V = c.requires.stands.4 in
     let O = g.met.K.Total.lawful in
-    let F = rw c.other-at.ensures at c.in-Levelled.ensures in
+    let F = rw c.other_at.ensures at c.in-Levelled.ensures in
     let f = F.0 in
     let w = F.3 in
     let o = visit-order _ O _ _ _ _ _ _ _ _ _ _ _ V in
-    let q = c.other-at.ensures in (
+    let q = c.other_at.ensures in (
       omega arith,
       omega arith,
       omega arith,
       omega arith,
       entered_here _ O _ _ _ _ _ _ _ _ _ _ _ V,
       entered-left _ O _ _ _ _ _ _ _ _ _ _ _ V,
-      rw c.other-at.ensures (entered-right _ O _ _ _ _ _ _ _ _ _ _ _ V f),
+      rw c.other_at.ensures (entered-right _ O _ _ _ _ _ _ _ _ _ _ _ V f),
       visit-starts _ O _ _ _ _ _ _ _ _ _ _ _ V,
     )
 
@@ -40,30 +40,30 @@ pub level-new-requires : goal.level-new-requires
 level-new-requires g c =
     let V = c.requires.stands.4 in
     let O = g.met.K.Total.lawful in
-    let F = rw c.other-at.ensures at c.in-Levelled.ensures in
+    let F = rw c.other_at.ensures at c.in-Levelled.ensures in
     let f = F.0 in
     let o = visit-order _ O _ _ _ _ _ _ _ _ _ _ _ V in
-    let q = c.other-at.ensures in
+    let q = c.other_at.ensures in
     let l = other-left _ O _ _ _ _ _ _ _ _ _ _ _ V in
     let r = other-right _ O _ _ _ _ _ _ _ _ _ _ _ V f in
-    (visit-starts _ O _ _ _ _ _ _ _ _ _ _ _ V, omega arith, omega arith, omega arith, rw c.other-at.ensures (omega arith))
+    (visit-starts _ O _ _ _ _ _ _ _ _ _ _ _ V, omega arith, omega arith, omega arith, rw c.other_at.ensures (omega arith))
 
 pub marked-requires : goal.marked-requires
 marked-requires g c =
     let V = c.requires.stands.4 in
     omega (arith, V.mid.behind, V.here, V.few)
 
-pub set-mark-requires : goal.set-mark-requires
-set-mark-requires g c =
+pub set_mark-requires : goal.set_mark-requires
+set_mark-requires g c =
     let V = c.requires.stands.4 in
     omega (arith, V.mid.behind, V.here, V.few)
 
 pub returns-in-Levelled : goal.returns-in-Levelled
 returns-in-Levelled g c =
     let O = g.met.K.Total.lawful in
-    let q = c.other-at.ensures in
-    let F = rw c.other-at.ensures at c.in-Levelled.ensures in
-    let E = rw c.other-at.ensures at c.level-new.ensures in
+    let q = c.other_at.ensures in
+    let F = rw c.other_at.ensures at c.in-Levelled.ensures in
+    let E = rw c.other_at.ensures at c.level-new.ensures in
     let v = view g.K.Total.kind g.K.Total.columns c.args.work.now in
     record {
       stands = λ b a i hi V. (
@@ -71,25 +71,25 @@ returns-in-Levelled g c =
         record {
           list = bump_pulse g.K.Total.kind c.args.pass.down v c.args.pass.width c.args.first (v.other c.args.first) ∷ [];
           more = levelled-one _ O _ _ _ _ _ _ _ _ _ _ _ V F _ _ _ _ _ E c.marked.ensures;
-          put = c.put-next-rows.ensures.slots ∙ ap (λ e. set (g.S.Shelf.slots c.args.shelf.now) c.args.at.rows e) (rw c.other-at.ensures at c.pulse.ensures);
-          count = c.put-next-rows.ensures.rows;
+          put = c.put_next-rows.ensures.slots ∙ ap (λ e. set (g.S.Shelf.slots c.args.shelf.now) c.args.at.rows e) (rw c.other_at.ensures at c.pulse.ensures);
+          count = c.put_next-rows.ensures.rows;
         },
       );
-      rows = omega (arith, c.put-next-rows.ensures.rows);
-      outside = c.put-next-rows.ensures.outside;
+      rows = omega (arith, c.put_next-rows.ensures.rows);
+      outside = c.put_next-rows.ensures.outside;
     }
 
 pub returns-in-Kept : goal.returns-in-Kept
 returns-in-Kept g c =
     let O = g.met.K.Total.lawful in
-    let F = rw c.other-at.ensures at c.in-Kept.ensures in
+    let F = rw c.other_at.ensures at c.in-Kept.ensures in
     let e : c.args.at.kept + 1 ≡ suc c.args.at.kept = omega arith in
     record {
       stands = λ b a i hi V. (
-        rw (c.set-mark.ensures, e, c.other-at.ensures) (visit-kept _ O _ _ _ _ _ _ _ _ _ _ _ V F),
+        rw (c.set_mark.ensures, e, c.other_at.ensures) (visit-kept _ O _ _ _ _ _ _ _ _ _ _ _ V F),
         record {
           list = [];
-          more = rw (c.other-at.ensures, append-nil) (kept-none _ O _ _ _ _ _ _ _ _ _ _ _ V F);
+          more = rw (c.other_at.ensures, append-nil) (kept-none _ O _ _ _ _ _ _ _ _ _ _ _ V F);
           put = refl;
           count = omega arith;
         },
@@ -101,13 +101,13 @@ returns-in-Kept g c =
 pub returns-in-Dropped : goal.returns-in-Dropped
 returns-in-Dropped g c =
     let O = g.met.K.Total.lawful in
-    let F = rw c.other-at.ensures at c.in-Dropped.ensures in
+    let F = rw c.other_at.ensures at c.in-Dropped.ensures in
     record {
       stands = λ b a i hi V. (
-        rw c.other-at.ensures (visit-dropped _ O _ _ _ _ _ _ _ _ _ _ _ V F),
+        rw c.other_at.ensures (visit-dropped _ O _ _ _ _ _ _ _ _ _ _ _ V F),
         record {
           list = [];
-          more = rw (c.other-at.ensures, append-nil) (dropped-none _ O _ _ _ _ _ _ _ _ _ _ _ V F);
+          more = rw (c.other_at.ensures, append-nil) (dropped-none _ O _ _ _ _ _ _ _ _ _ _ _ V F);
           put = refl;
           count = omega arith;
         },

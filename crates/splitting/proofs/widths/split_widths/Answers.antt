@@ -18,8 +18,8 @@ returns-then-marks-eq0 g c =
     let D = split-flat _ g.met.K.Total.lawful _ _ q _ _ _ _ _ _ c.loop-done.invariant.0 c.if-marks-eq0.true (omega arith) (accepted-slots _ _ _ _ c.requires) in
     record { count = D.0; rows = D.1; outside = c.loop-done.invariant.1 }
 
-pub level-width-up-requires : goal.level-width-up-requires
-level-width-up-requires g c =
+pub level_width-up-requires : goal.level_width-up-requires
+level_width-up-requires g c =
     let K = g.K.Total.kind in
     let xs = map g.K.Total.columns c.args.totals.now in
     let b = smooth K c.loop-done.done xs in
@@ -34,8 +34,8 @@ level-width-up-requires g c =
       stands = (b, m, rw (c.bumps.ensures.0, c.bumps.ensures.1, e) (ready_up _ O _ _ q _ _ _ _ _ _ c.loop-done.invariant.0 (accepted-enter _ _ _ _ c.requires) c.loop-done-test.true));
     }
 
-pub level-width-down-requires : goal.level-width-down-requires
-level-width-down-requires g c =
+pub level_width-down-requires : goal.level_width-down-requires
+level_width-down-requires g c =
     let K = g.K.Total.kind in
     let xs = map g.K.Total.columns c.args.totals.now in
     let b = smooth K c.loop-done.done xs in
@@ -43,7 +43,7 @@ level-width-down-requires g c =
     let q = length-map c.args.totals.now g.K.Total.columns in
     let O = g.met.K.Total.lawful in
     let e : c.loop-done.done + 1 ≡ suc c.loop-done.done = omega arith in
-    let W = rw c.bumps.ensures.1 at (c.level-width-up.ensures.stands b m (rw (c.bumps.ensures.0, c.bumps.ensures.1, e) (ready_up _ O _ _ q _ _ _ _ _ _ c.loop-done.invariant.0 (accepted-enter _ _ _ _ c.requires) c.loop-done-test.true))) in
+    let W = rw c.bumps.ensures.1 at (c.level_width-up.ensures.stands b m (rw (c.bumps.ensures.0, c.bumps.ensures.1, e) (ready_up _ O _ _ q _ _ _ _ _ _ c.loop-done.invariant.0 (accepted-enter _ _ _ _ c.requires) c.loop-done-test.true))) in
     record {
       room = omega (arith, accepted-room _ _ _ _ c.requires);
       few = rw (← q) (accepted-few _ _ _ _ c.requires);
@@ -60,10 +60,10 @@ loop-done-preserved g c =
     let q = length-map c.args.totals.now g.K.Total.columns in
     let O = g.met.K.Total.lawful in
     let e : c.loop-done.done + 1 ≡ suc c.loop-done.done = omega arith in
-    let W = rw c.bumps.ensures.1 at (c.level-width-up.ensures.stands b m (rw (c.bumps.ensures.0, c.bumps.ensures.1, e) (ready_up _ O _ _ q _ _ _ _ _ _ c.loop-done.invariant.0 (accepted-enter _ _ _ _ c.requires) c.loop-done-test.true))) in
-    let X = rw c.pits.ensures.1 at (c.level-width-down.ensures.stands m (smooth K (suc c.loop-done.done) xs) (rw (c.pits.ensures.0, c.pits.ensures.1, e) (ready-down _ O _ _ q _ _ _ _ _ _ c.loop-done.invariant.0 (accepted-enter _ _ _ _ c.requires) c.loop-done-test.true _ _ _ _ W))) in (
+    let W = rw c.bumps.ensures.1 at (c.level_width-up.ensures.stands b m (rw (c.bumps.ensures.0, c.bumps.ensures.1, e) (ready_up _ O _ _ q _ _ _ _ _ _ c.loop-done.invariant.0 (accepted-enter _ _ _ _ c.requires) c.loop-done-test.true))) in
+    let X = rw c.pits.ensures.1 at (c.level_width-down.ensures.stands m (smooth K (suc c.loop-done.done) xs) (rw (c.pits.ensures.0, c.pits.ensures.1, e) (ready-down _ O _ _ q _ _ _ _ _ _ c.loop-done.invariant.0 (accepted-enter _ _ _ _ c.requires) c.loop-done-test.true _ _ _ _ W))) in (
       rw e (so_far_more _ O _ _ q _ _ _ _ _ _ c.loop-done.invariant.0 (accepted-enter _ _ _ _ c.requires) c.loop-done-test.true _ _ _ _ W _ _ _ _ X),
-      c.level-width-down.ensures.outside ∙ (c.level-width-up.ensures.outside ∙ c.loop-done.invariant.1),
+      c.level_width-down.ensures.outside ∙ (c.level_width-up.ensures.outside ∙ c.loop-done.invariant.1),
     )
 
 pub returns : goal.returns

@@ -5,6 +5,6 @@ use Rattle.writer.proofs.digits.put_bytes.Goals as goal
 pub returns : goal.returns
 returns c =
     record {
-      bytes = pasted_part c.args.at _ c.args.bytes.now c.copy-from-slice.new.self c.args.out.now c.copy-from-slice.ensures.after (omega arith);
+      bytes = pasted_part c.args.at _ c.args.bytes.now c.copy_from_slice.new.self c.args.out.now c.copy_from_slice.ensures.after (omega arith);
       end = refl;
     }

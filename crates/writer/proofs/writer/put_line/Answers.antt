@@ -4,8 +4,8 @@ use Rattle.writer.specs.Written.{pasted}
 use Rattle.writer.proofs.LineFacts.{line_some, written_more_length, written_none, pasted_more, pasted_all}
 use Rattle.writer.proofs.writer.put_line.Goals as goal
 
-pub put-field-end-requires : goal.put-field-end-requires
-put-field-end-requires g c =
+pub put_field-end-requires : goal.put_field-end-requires
+put_field-end-requires g c =
     let some = ap length (line_some g.S.Shown.bytes c.args.items.now c.if-items-eq0.false) in
     let more = written_more_length g.S.Shown.bytes c.args.items.now c.loop-i.i c.index-items-i.result (omega arith) c.index-items-i.is in
     omega arith
@@ -15,8 +15,8 @@ loop-i-preserved g c =
     let bytes = g.S.Shown.bytes in
     let some = ap length (line_some g.S.Shown.bytes c.args.items.now c.if-items-eq0.false) in
     let more = written_more_length g.S.Shown.bytes c.args.items.now c.loop-i.i c.index-items-i.result (omega arith) c.index-items-i.is in (
-      ap (λ n. pasted n (written bytes (drop (c.loop-i.i + 1) c.args.items.now)) c.put-field-end.new.out) c.put-field-end.ensures.end
-          ∙ (pasted_more g.S.Shown.bytes c.args.items.now c.loop-i.i c.index-items-i.result c.loop-i.end c.loop-i.out c.put-field-end.new.out (omega arith) c.index-items-i.is (omega arith) c.put-field-end.ensures.bytes
+      ap (λ n. pasted n (written bytes (drop (c.loop-i.i + 1) c.args.items.now)) c.put_field-end.new.out) c.put_field-end.ensures.end
+          ∙ (pasted_more g.S.Shown.bytes c.args.items.now c.loop-i.i c.index-items-i.result c.loop-i.end c.loop-i.out c.put_field-end.new.out (omega arith) c.index-items-i.is (omega arith) c.put_field-end.ensures.bytes
           ∙ c.loop-i.invariant.0),
       omega arith,
     )

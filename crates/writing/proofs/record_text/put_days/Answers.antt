@@ -2,15 +2,15 @@ use Rattle.std.proofs.Common.{◌+◌, length, sym, ap, ◌∙◌, arith}
 use Rattle.writing.proofs.RecordFacts.{length-of-day, no_lines, pasted-day, pasted-days}
 use Rattle.writing.proofs.record_text.put_days.Goals as goal
 
-pub put-day-text-requires : goal.put-day-text-requires
-put-day-text-requires g c =
+pub put_day-text-requires : goal.put_day-text-requires
+put_day-text-requires g c =
     let more = length-of-day g.K.Total.kind g.K.Total.columns (c.loop-i.i + 1) c.args.totals.now c.loop-i.i c.index-totals-i.result (omega arith) c.index-totals-i.is in
     omega arith
 
 pub loop-i-preserved : goal.loop-i-preserved
 loop-i-preserved g c =
     let more = length-of-day g.K.Total.kind g.K.Total.columns (c.loop-i.i + 1) c.args.totals.now c.loop-i.i c.index-totals-i.result (omega arith) c.index-totals-i.is in (
-      pasted-day g.K.Total.kind g.K.Total.columns (c.loop-i.i + 1) c.args.totals.now c.loop-i.i c.index-totals-i.result c.loop-i.text.at c.put-day-text.result.at c.loop-i.out c.put-day-text.new.out (omega arith) c.index-totals-i.is (omega arith) c.put-day-text.ensures.end c.put-day-text.ensures.bytes
+      pasted-day g.K.Total.kind g.K.Total.columns (c.loop-i.i + 1) c.args.totals.now c.loop-i.i c.index-totals-i.result c.loop-i.text.at c.put_day-text.result.at c.loop-i.out c.put_day-text.new.out (omega arith) c.index-totals-i.is (omega arith) c.put_day-text.ensures.end c.put_day-text.ensures.bytes
           ∙ c.loop-i.invariant.0,
       omega arith,
     )

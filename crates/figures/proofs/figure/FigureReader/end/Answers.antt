@@ -4,11 +4,11 @@ use Rattle.std.proofs.lemmas.Bool.Decides.{nat_tests}
 use Rattle.figures.proofs.FigureFacts.{at_most_18, minus_ends, plain_ends}
 use Rattle.figures.proofs.figure.FigureReader.end.Goals as goal
 
-pub overflow-cast-value : goal.overflow-cast-value
-overflow-cast-value c = let h = at_most_18 _ c.requires.few in search rules
+pub overflow_cast-value : goal.overflow_cast-value
+overflow_cast-value c = let h = at_most_18 _ c.requires.few in search rules
 
-pub overflow-sub-result : goal.overflow-sub-result
-overflow-sub-result c = let h = at_most_18 _ c.requires.few in omega (arith, ints)
+pub overflow_sub-result : goal.overflow_sub-result
+overflow_sub-result c = let h = at_most_18 _ c.requires.few in omega (arith, ints)
 
 pub returns-then-self : goal.returns-then-self
 returns-then-self c = let h = at_most_18 _ c.requires.few in minus_ends c.args.self c.in-Digits.is c.if-self.true c.requires.few (omega arith)
