@@ -16,15 +16,15 @@ use Rattle.sheets.specs.Promise.{Promise, Continues}
 use Rattle.histories.specs.Steps.{call_of, calls_of, Leaves, Lead, GoesOn}
 
 module _ {W : Type 0} (K : Kind) (s t : State) (w : List W) where
-  pub range-goes-on : {A : Type 0} (m : Mark) (low high : ℕ) (u v : A) (r : Result ℕ Stop) → (v ≡ u → t ≡ s) → Marking K (marking m low high) s t u v r → Continues K (marking m low high) s t r → GoesOn K (marking m low high) s t w w
-  range-goes-on m low high u v (Ok n) y (a, b, d, e) f h S = ((f h S).0, inl (a, (b, d), refl))
-  range-goes-on m low high u v (Err (Refused r)) y (g, e) f h S = ((f h S).0, inr ((r, g), y e, refl))
-  range-goes-on m low high u v (Err Unreachable) y e f h S = absurd ((f h S).1 tt)
+  pub range_goes_on : {A : Type 0} (m : Mark) (low high : ℕ) (u v : A) (r : Result ℕ Stop) → (v ≡ u → t ≡ s) → Marking K (marking m low high) s t u v r → Continues K (marking m low high) s t r → GoesOn K (marking m low high) s t w w
+  range_goes_on m low high u v (Ok n) y (a, b, d, e) f h S = ((f h S).0, inl (a, (b, d), refl))
+  range_goes_on m low high u v (Err (Refused r)) y (g, e) f h S = ((f h S).0, inr ((r, g), y e, refl))
+  range_goes_on m low high u v (Err Unreachable) y e f h S = absurd ((f h S).1 tt)
 
-  pub one-goes-on : {A : Type 0} (m : Mark) (n : ℕ) (u v : A) (r : Result ℕ Stop) → (v ≡ u → t ≡ s) → Marking K (marking_one m n) s t u v r → Continues K (marking_one m n) s t r → GoesOn K (marking_one m n) s t w w
-  one-goes-on m n u v (Ok x) y (a, b, d, e) f h S = ((f h S).0, inl (a, (b, d), refl))
-  one-goes-on m n u v (Err (Refused r)) y (g, e) f h S = ((f h S).0, inr ((r, g), y e, refl))
-  one-goes-on m n u v (Err Unreachable) y e f h S = absurd ((f h S).1 tt)
+  pub one_goes_on : {A : Type 0} (m : Mark) (n : ℕ) (u v : A) (r : Result ℕ Stop) → (v ≡ u → t ≡ s) → Marking K (marking_one m n) s t u v r → Continues K (marking_one m n) s t r → GoesOn K (marking_one m n) s t w w
+  one_goes_on m n u v (Ok x) y (a, b, d, e) f h S = ((f h S).0, inl (a, (b, d), refl))
+  one_goes_on m n u v (Err (Refused r)) y (g, e) f h S = ((f h S).0, inr ((r, g), y e, refl))
+  one_goes_on m n u v (Err Unreachable) y e f h S = absurd ((f h S).1 tt)
 
 -- a take with a part of a work list, from the list w to the list x
 pub take_goes_on : {A W : Type 0} (K : Kind) (s t : State) (xs : Record K) (entries : ℕ) (w x : List W) (u v : A) (i o : List W) (r : Result ℕ Stop) → (v ≡ u → t ≡ s) → (o ≡ i → x ≡ w) → drop entries x ≡ drop entries w →
@@ -38,11 +38,11 @@ pub take_nothing : {A : Type 0} (n : ℕ) → take {A = A} n [] ≡ []
 take_nothing n = take_all n [] (omega arith)
 
 module _ {A : Type 0} (xs : List A) (i n : ℕ) where
-  pub part-past : length xs < i → take (length xs - length xs) (drop (length xs) xs) ≡ take n (drop i xs)
-  part-past h = rw (drop_all (length xs) xs (omega arith), drop_all i xs (omega arith)) (take_nothing (length xs - length xs) ∙ sym (take_nothing n))
+  pub part_past : length xs < i → take (length xs - length xs) (drop (length xs) xs) ≡ take n (drop i xs)
+  part_past h = rw (drop_all (length xs) xs (omega arith), drop_all i xs (omega arith)) (take_nothing (length xs - length xs) ∙ sym (take_nothing n))
 
-  pub part-rest : length (take (length xs - i) (drop i xs)) < n → take (length xs - i) (drop i xs) ≡ take n (drop i xs)
-  part-rest h = take_rest xs i ∙ sym (take_all n (drop i xs) (let z : length (drop i xs) < n = rw (take_rest xs i) at h in omega arith))
+  pub part_rest : length (take (length xs - i) (drop i xs)) < n → take (length xs - i) (drop i xs) ≡ take n (drop i xs)
+  part_rest h = take_rest xs i ∙ sym (take_all n (drop i xs) (let z : length (drop i xs) < n = rw (take_rest xs i) at h in omega arith))
 
   pub part_within : take n (take (length xs - i) (drop i xs)) ≡ take n (drop i xs)
   part_within = ap (take n) (take_rest xs i)

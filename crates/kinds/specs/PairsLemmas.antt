@@ -54,8 +54,8 @@ module _ (lt lt' : ℤ → ℤ → Bool) (b b' : ℕ) (h h' : ℤ → Bool) (n n
         let second : h' (pos 0) ≡ true = B.zeroed x.1 (pos 0) 1 (grind arith) refl in
         grind arith
 
-    both-lawful : Lawful both
-    both-lawful =
+    both_lawful : Lawful both
+    both_lawful =
         record {
           irreflexive = irreflexive;
           one_way = one_way;
@@ -70,4 +70,4 @@ module _ (lt lt' : ℤ → ℤ → Bool) (b b' : ℕ) (h h' : ℤ → Bool) (n n
 
 pub pair_lawful : (A B : Kind) → A.arity ≡ one → B.arity ≡ one → Lawful A → Lawful B → Lawful (pair A B)
 pair_lawful A B e f a b =
-    both-lawful (below_in A) (below_in B) (only A.arity A.bound) (only B.arity B.bound) (has_in A) (has_in B) (only A.arity A.names) (only B.arity B.names) (flat_lawful A e a) (flat_lawful B f b)
+    both_lawful (below_in A) (below_in B) (only A.arity A.bound) (only B.arity B.bound) (has_in A) (has_in B) (only A.arity A.names) (only B.arity B.names) (flat_lawful A e a) (flat_lawful B f b)

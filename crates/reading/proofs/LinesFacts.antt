@@ -35,8 +35,8 @@ module _ {V : Type 0} (K : Kind) (columns : V → Of K) where
   midway_start before reading =
       record { totals = []; are = onto_none reading; count = refl; kept = λ _. refl; rest = refl }
 
-  pub midway-step : (before after : List V) (reading ahead : Result (List (Of K)) Finding) (days : ℕ) (v : V) → Midway K columns before after reading (push (Ok (columns v)) ahead) days → Midway K columns before (set after days v) reading ahead (days + 1)
-  midway-step before after reading ahead days v m =
+  pub midway_step : (before after : List V) (reading ahead : Result (List (Of K)) Finding) (days : ℕ) (v : V) → Midway K columns before after reading (push (Ok (columns v)) ahead) days → Midway K columns before (set after days v) reading ahead (days + 1)
+  midway_step before after reading ahead days v m =
       record {
         totals = m.totals ++ columns v ∷ [];
         are = m.are ∙ onto_push m.totals (columns v) ahead;
@@ -52,8 +52,8 @@ module _ {V : Type 0} (K : Kind) (columns : V → Of K) where
           ap (map columns) (take_more_set after days v (omega arith))
           ∙ (map_push columns (take days after) v ∙ ap (λ xs. xs ++ columns v ∷ []) (m.kept (omega arith)))
 
-  pub midway-stop : (before after : List V) (reading ahead : Result (List (Of K)) Finding) (days : ℕ) (e : Finding) → Midway K columns before after reading (push (Err e) ahead) days → reading ≡ Err e
-  midway-stop before after reading ahead days e m = m.are
+  pub midway_stop : (before after : List V) (reading ahead : Result (List (Of K)) Finding) (days : ℕ) (e : Finding) → Midway K columns before after reading (push (Err e) ahead) days → reading ≡ Err e
+  midway_stop before after reading ahead days e m = m.are
 
   pub midway_end : (before after : List V) (reading : Result (List (Of K)) Finding) (days : ℕ) → Midway K columns before after reading (Ok []) days → LinesRead K columns before after reading days
   midway_end before after reading days m =
@@ -65,14 +65,14 @@ module _ {V : Type 0} (K : Kind) (columns : V → Of K) where
       let ahead : Result (List (Of K)) Finding = read_lines K names (days + 1 + 1) (at + (length line + 1)) (lines next) in
       let told_is : read_line K names (days + 1) at (fields line) ≡ Ok (columns v) = sym line-is ∙ ap (told columns line_found) was in
       let here : read_lines K names (days + 1) at (lines left) ≡ push (Ok (columns v)) ahead = lines_more K names (days + 1) at left line next cut ∙ ap (λ (x : Result (Of K) Finding). push x ahead) told_is in
-      rw put (midway-step before after reading ahead days v (subst (λ (x : Result (List (Of K)) Finding). Midway K columns before after reading x days) here m))
+      rw put (midway_step before after reading ahead days v (subst (λ (x : Result (List (Of K)) Finding). Midway K columns before after reading x days) here m))
 
-  pub line-broke : (before after : List V) (reading : Result (List (Of K)) Finding) (names : List (List ℕ)) (days at : ℕ) (left line next : List ℕ) (r : Result V LineFault) (f : LineFault) → lines left ≡ line ∷ lines next → told columns line_found r ≡ read_line K names (days + 1) at (fields line) → r ≡ Err f → Midway K columns before after reading (read_lines K names (days + 1) at (lines left)) days → reading ≡ Err (line_found f)
-  line-broke before after reading names days at left line next r f cut line-is was m =
+  pub line_broke : (before after : List V) (reading : Result (List (Of K)) Finding) (names : List (List ℕ)) (days at : ℕ) (left line next : List ℕ) (r : Result V LineFault) (f : LineFault) → lines left ≡ line ∷ lines next → told columns line_found r ≡ read_line K names (days + 1) at (fields line) → r ≡ Err f → Midway K columns before after reading (read_lines K names (days + 1) at (lines left)) days → reading ≡ Err (line_found f)
+  line_broke before after reading names days at left line next r f cut line-is was m =
       let ahead : Result (List (Of K)) Finding = read_lines K names (days + 1 + 1) (at + (length line + 1)) (lines next) in
       let told_is : read_line K names (days + 1) at (fields line) ≡ Err (line_found f) = sym line-is ∙ ap (told columns line_found) was in
       let here : read_lines K names (days + 1) at (lines left) ≡ push (Err (line_found f)) ahead = lines_more K names (days + 1) at left line next cut ∙ ap (λ (x : Result (Of K) Finding). push x ahead) told_is in
-      midway-stop before after reading ahead days (line_found f) (subst (λ (x : Result (List (Of K)) Finding). Midway K columns before after reading x days) here m)
+      midway_stop before after reading ahead days (line_found f) (subst (λ (x : Result (List (Of K)) Finding). Midway K columns before after reading x days) here m)
 
 -- a names line without a fault
 pub names_good : (K : Kind) (text names values : List ℕ) (r : Result (Unit {0}) FieldFault) (x : Unit {0}) → lines text ≡ names ∷ lines values → r ≡ at_name (bad_name (trace_names K) (fields names) 0 (fields names)) → at_line 1 r ≡ Ok x → all_among (trace_names K) (fields names) ≡ true → read_all K (lines text) ≡ read_lines K (fields names) 1 (length names + 1) (lines values)

@@ -64,15 +64,15 @@ module _ (K : Kind) (names values : List (List ℕ)) (day at : ℕ) where
   stands_at t = cond (eqb t 2) (start_under at names values (letters Day)) at
 
   -- a finding of this line that is its first: nothing before its turn is met, and nothing in its turn further left
-  pub first-in-line : (f : Finding) → stage f ≡ 3 → f.line ≡ day + 1 → Passes (turn f.number) → ((turn f.number ≡ 1 → ⊥) → f.byte ≤ stands_at (turn f.number)) → (turn f.number ≡ 1 → (p : PartOf values) → figure p.part ≡ None → f.byte ≤ at + spread p.before) → (g : Finding) → LineMeets K names values day at g → Before g f → ⊥
-  first-in-line f s l p stands least g m h = elim (in_turn g f h (in-stage g m) (on_line g m)) [ inl k ↦ unmet (turn f.number) p g m k | inr k ↦ further g m k.0 k.1 ]
+  pub first_in_line : (f : Finding) → stage f ≡ 3 → f.line ≡ day + 1 → Passes (turn f.number) → ((turn f.number ≡ 1 → ⊥) → f.byte ≤ stands_at (turn f.number)) → (turn f.number ≡ 1 → (p : PartOf values) → figure p.part ≡ None → f.byte ≤ at + spread p.before) → (g : Finding) → LineMeets K names values day at g → Before g f → ⊥
+  first_in_line f s l p stands least g m h = elim (in_turn g f h (in_stage g m) (on_line g m)) [ inl k ↦ unmet (turn f.number) p g m k | inr k ↦ further g m k.0 k.1 ]
     where
-      in-stage : (x : Finding) → LineMeets K names values day at x → stage f ≤ stage x
-      in-stage x (miscounted c e) = rw e (omega arith)
-      in-stage x (no_figure q n e) = rw e (omega arith)
-      in-stage x (out_of_turn z n d e) = rw e (omega arith)
-      in-stage x (past_the_last j e) = rw e (omega arith)
-      in-stage x (may_not_enter y c b e) = rw e (omega arith)
+      in_stage : (x : Finding) → LineMeets K names values day at x → stage f ≤ stage x
+      in_stage x (miscounted c e) = rw e (omega arith)
+      in_stage x (no_figure q n e) = rw e (omega arith)
+      in_stage x (out_of_turn z n d e) = rw e (omega arith)
+      in_stage x (past_the_last j e) = rw e (omega arith)
+      in_stage x (may_not_enter y c b e) = rw e (omega arith)
 
       on_line : (x : Finding) → LineMeets K names values day at x → f.line ≤ x.line
       on_line x (miscounted c e) = rw e (omega arith)
@@ -120,25 +120,25 @@ module _ (K : Kind) (names values : List (List ℕ)) (day at : ℕ) where
   turn_small g (may_not_enter y c b e) = rw e (omega arith)
 
   -- the checks of a line that they let through
-  pub checks-passed : (x : Unit {0}) → check_line names day at values ≡ Ok x → (length values ≡ length names) × (malformed at values ≡ None) × (is_day day (number_under names values (letters Day)) ≡ true) × (day ≤ 1000)
-  checks-passed x h =
+  pub checks_passed : (x : Unit {0}) → check_line names day at values ≡ Ok x → (length values ≡ length names) × (malformed at values ≡ None) × (is_day day (number_under names values (letters Day)) ≡ true) × (day ≤ 1000)
+  checks_passed x h =
       let c = cond_ok (eqb (length values) (length names)) _ _ x h in
       let f = unless_ok 11 (day + 1) (malformed at values) _ x c.1 in
       let d = cond_ok (is_day day (number_under names values (letters Day))) _ _ x f.1 in
       let l = cond_not_ok (ltb 1000 day) _ _ x d.1 in
       (eqb-true (length values) (length names) c.0, f.0, d.0, ltb-false 1000 day l.0)
 
-  pub line-unmet : (x : Of K) → read_line K names day at values ≡ Ok x → (g : Finding) → LineMeets K names values day at g → ⊥
-  line-unmet x h g m =
+  pub line_unmet : (x : Of K) → read_line K names day at values ≡ Ok x → (g : Finding) → LineMeets K names values day at g → ⊥
+  line_unmet x h g m =
       let p = then_ok (check_line names day at values) _ x h in
-      let q = checks-passed p.0.0 p.0.1 in
+      let q = checks_passed p.0.0 p.0.1 in
       let e = cond_ok (K.has (columns_under K.arity K.names names values) && within K.arity K.bound (columns_under K.arity K.names names values)) _ _ x p.1 in
       unmet 5 (record { count = λ _. q.0; figures = λ _. q.1; in_order = λ _. q.2; in_time = λ _. q.3; enters = λ _. e.0 }) g m (turn_small g m)
 
   -- a finding of the line that comes first among those of the line
   pub record First-in-line (f : Finding) : Type 0 where
     pub met : LineMeets K names values day at f
-    pub in-stage : stage f ≡ 3
+    pub in_stage : stage f ≡ 3
     pub on_line : f.line ≡ day + 1
     pub first : (g : Finding) → LineMeets K names values day at g → Before g f → ⊥
 
@@ -150,52 +150,52 @@ module _ (K : Kind) (names values : List (List ℕ)) (day at : ℕ) where
       let m : LineMeets K names values day at f = miscounted (eqb-false (length values) (length names) c) e in
       record {
         met = m;
-        in-stage = rw e refl;
+        in_stage = rw e refl;
         on_line = rw e refl;
         first =
-            rw e (first-in-line (finding 12 (day + 1) at) refl refl
+            rw e (first_in_line (finding 12 (day + 1) at) refl refl
             (record { count = never 0 0 (omega arith); figures = never 1 0 (omega arith); in_order = never 2 0 (omega arith); in_time = never 3 0 (omega arith); enters = never 4 0 (omega arith) })
             (λ _. omega arith)
             (λ k. absurd (omega arith)));
       }
 
-  holds-no-figure : (f : Finding) (byte : ℕ) → length values ≡ length names → malformed at values ≡ Some byte → f ≡ finding 11 (day + 1) byte → First-in-line f
-  holds-no-figure f byte c b e =
+  holds_no_figure : (f : Finding) (byte : ℕ) → length values ≡ length names → malformed at values ≡ Some byte → f ≡ finding 11 (day + 1) byte → First-in-line f
+  holds_no_figure f byte c b e =
       let m = leftmost_some is_figure_at at values byte (sym (malformed_leftmost at values) ∙ b) in
       record {
         met = no_figure m.place (none_is (figure m.place.part) m.fails) (e ∙ ap (finding 11 (day + 1)) m.byte_is);
-        in-stage = rw e refl;
+        in_stage = rw e refl;
         on_line = rw e refl;
         first =
-            rw e (first-in-line (finding 11 (day + 1) byte) refl refl
+            rw e (first_in_line (finding 11 (day + 1) byte) refl refl
             (record { count = λ _. c; figures = never 1 1 (omega arith); in_order = never 2 1 (omega arith); in_time = never 3 1 (omega arith); enters = never 4 1 (omega arith) })
             (λ k. absurd (k refl))
             (λ _ p n. m.least p (ap is_some n)));
       }
 
-  turns-wrong : (f : Finding) → all_among (trace_names K) names ≡ true → length values ≡ length names → malformed at values ≡ None → is_day day (number_under names values (letters Day)) ≡ false → f ≡ finding 13 (day + 1) (start_under at names values (letters Day)) → First-in-line f
-  turns-wrong f a c n d e =
+  turns_wrong : (f : Finding) → all_among (trace_names K) names ≡ true → length values ≡ length names → malformed at values ≡ None → is_day day (number_under names values (letters Day)) ≡ false → f ≡ finding 13 (day + 1) (start_under at names values (letters Day)) → First-in-line f
+  turns_wrong f a c n d e =
       let stand = all_stand K names values a c (figures_all at values n) in
       let other : number_under names values (letters Day) ≡ pos day → ⊥ = λ k. both_ways (is_day day (number_under names values (letters Day))) d (ap (is_day day) k ∙ eq-eqb day day refl) in
       record {
         met = out_of_turn (number_under names values (letters Day)) stand.0 other e;
-        in-stage = rw e refl;
+        in_stage = rw e refl;
         on_line = rw e refl;
         first =
-            rw e (first-in-line (finding 13 (day + 1) (start_under at names values (letters Day))) refl refl
+            rw e (first_in_line (finding 13 (day + 1) (start_under at names values (letters Day))) refl refl
             (record { count = λ _. c; figures = λ _. n; in_order = never 2 2 (omega arith); in_time = never 3 2 (omega arith); enters = never 4 2 (omega arith) })
             (λ _. omega arith)
             (λ k. absurd (omega arith)));
       }
 
-  comes-late : (f : Finding) → length values ≡ length names → malformed at values ≡ None → is_day day (number_under names values (letters Day)) ≡ true → 1000 < day → f ≡ finding 1 (day + 1) at → First-in-line f
-  comes-late f c n d l e =
+  comes_late : (f : Finding) → length values ≡ length names → malformed at values ≡ None → is_day day (number_under names values (letters Day)) ≡ true → 1000 < day → f ≡ finding 1 (day + 1) at → First-in-line f
+  comes_late f c n d l e =
       record {
         met = past_the_last l e;
-        in-stage = rw e refl;
+        in_stage = rw e refl;
         on_line = rw e refl;
         first =
-            rw e (first-in-line (finding 1 (day + 1) at) refl refl
+            rw e (first_in_line (finding 1 (day + 1) at) refl refl
             (record { count = λ _. c; figures = λ _. n; in_order = λ _. d; in_time = never 3 3 (omega arith); enters = never 4 3 (omega arith) })
             (λ _. omega arith)
             (λ k. absurd (omega arith)));
@@ -206,29 +206,29 @@ module _ (K : Kind) (names values : List (List ℕ)) (day at : ℕ) where
       let stand = all_stand K names values a c (figures_all at values n) in
       record {
         met = may_not_enter (columns_under K.arity K.names names values) stand.1 (and_cases (K.has (columns_under K.arity K.names names values)) _ b) e;
-        in-stage = rw e refl;
+        in_stage = rw e refl;
         on_line = rw e refl;
         first =
-            rw e (first-in-line (finding 2 (day + 1) at) refl refl
+            rw e (first_in_line (finding 2 (day + 1) at) refl refl
             (record { count = λ _. c; figures = λ _. n; in_order = λ _. d; in_time = λ _. l; enters = never 4 4 (omega arith) })
             (λ _. omega arith)
             (λ k. absurd (omega arith)));
       }
 
-  checks-refused : (f : Finding) → all_among (trace_names K) names ≡ true → check_line names day at values ≡ Err f → First-in-line f
-  checks-refused f a h =
+  checks_refused : (f : Finding) → all_among (trace_names K) names ≡ true → check_line names day at values ≡ Err f → First-in-line f
+  checks_refused f a h =
       elim (cond_err (eqb (length values) (length names)) _ _ f h) [
         | inr c ↦ miscounts f c.0 c.1
         | inl c ↦
             let count = eqb-true (length values) (length names) c.0 in
             elim (unless_err 11 (day + 1) (malformed at values) _ f c.1) [
-              | inl b ↦ holds-no-figure f b.0 count b.1 b.2
+              | inl b ↦ holds_no_figure f b.0 count b.1 b.2
               | inr n ↦
                   elim (cond_err (is_day day (number_under names values (letters Day))) _ _ f n.1) [
-                    | inr d ↦ turns-wrong f a count n.0 d.0 d.1
+                    | inr d ↦ turns_wrong f a count n.0 d.0 d.1
                     | inl d ↦
                         elim (cond_not_err (ltb 1000 day) _ _ f d.1) [
-                          | inl l ↦ comes-late f count n.0 d.0 (ltb-true 1000 day l.0) l.1
+                          | inl l ↦ comes_late f count n.0 d.0 (ltb-true 1000 day l.0) l.1
                           | inr l ↦ absurd (not_refused tt f l.1)
                         ]
                   ]
@@ -238,9 +238,9 @@ module _ (K : Kind) (names values : List (List ℕ)) (day at : ℕ) where
   pub line_refused : (f : Finding) → all_among (trace_names K) names ≡ true → read_line K names day at values ≡ Err f → First-in-line f
   line_refused f a h =
       elim (then_err (check_line names day at values) _ f h) [
-        | inl k ↦ checks-refused f a k
+        | inl k ↦ checks_refused f a k
         | inr p ↦
-            let q = checks-passed p.0 p.1 in
+            let q = checks_passed p.0 p.1 in
             elim (cond_err (K.has (columns_under K.arity K.names names values) && within K.arity K.bound (columns_under K.arity K.names names values)) (Ok (columns_under K.arity K.names names values)) _ f p.2) [
               | inl r ↦ absurd (not_refused _ f r.1)
               | inr r ↦ stays_out f a q.0 q.1 q.2 q.3 r.0 r.1

@@ -10,7 +10,7 @@ use Rattle.reading.proofs.AcceptedFacts.{cond_ok, push_ok, none_empty}
 use Rattle.reading.proofs.PlaceFacts.{front, behind, no_part, each_part}
 use Rattle.reading.proofs.OrderFacts.{later_line, not_itself}
 use Rattle.reading.proofs.RefusalFacts.{not_refused, cond_err, push_err}
-use Rattle.reading.proofs.RefusedLine.{line-unmet, line_refused}
+use Rattle.reading.proofs.RefusedLine.{line_unmet, line_refused}
 
 module _ (K : Kind) (names : List (List ℕ)) where
   moved : (values : List (List ℕ)) (g : Finding) (day day' at at' : ℕ) → day ≡ day' → at ≡ at' → LineMeets K names values day at g → LineMeets K names values day' at' g
@@ -18,16 +18,16 @@ module _ (K : Kind) (names : List (List ℕ)) where
       subst (λ (x : ℕ). LineMeets K names values day' x g) a (subst (λ (x : ℕ). LineMeets K names values x at g) d m)
 
   -- a line's finding is of the stage of values and on that line
-  pub in-line : (values : List (List ℕ)) (day at : ℕ) (g : Finding) → LineMeets K names values day at g → (stage g ≡ 3) × (g.line ≡ day + 1)
-  in-line values day at g (miscounted c e) = (rw e refl, rw e refl)
-  in-line values day at g (no_figure q n e) = (rw e refl, rw e refl)
-  in-line values day at g (out_of_turn z n d e) = (rw e refl, rw e refl)
-  in-line values day at g (past_the_last l e) = (rw e refl, rw e refl)
-  in-line values day at g (may_not_enter x c b e) = (rw e refl, rw e refl)
+  pub in_line : (values : List (List ℕ)) (day at : ℕ) (g : Finding) → LineMeets K names values day at g → (stage g ≡ 3) × (g.line ≡ day + 1)
+  in_line values day at g (miscounted c e) = (rw e refl, rw e refl)
+  in_line values day at g (no_figure q n e) = (rw e refl, rw e refl)
+  in_line values day at g (out_of_turn z n d e) = (rw e refl, rw e refl)
+  in_line values day at g (past_the_last l e) = (rw e refl, rw e refl)
+  in_line values day at g (may_not_enter x c b e) = (rw e refl, rw e refl)
 
   pub in_lines : (day at : ℕ) (ps : List (List ℕ)) (g : Finding) → LinesMeet K names day at ps g → (stage g ≡ 3) × (day + 1 ≤ g.line)
   in_lines day at ps g (ended p n m) =
-      let k = in-line (fields p.part) (day + length p.before) (at + spread p.before) g m in
+      let k = in_line (fields p.part) (day + length p.before) (at + spread p.before) g m in
       (k.0, omega (arith, k.1))
   in_lines day at ps g (unended p z n e) = (rw e refl, rw e (omega arith))
 
@@ -36,14 +36,14 @@ module _ (K : Kind) (names : List (List ℕ)) where
   First-meets day at line rest g =
       ((rest ≡ [] → ⊥) × LineMeets K names (fields line) day at g) ⊎ ((rest ≡ []) × (line ≡ [] → ⊥) × (g ≡ finding 12 (day + 1) at))
 
-  pub first-or-behind : (day at : ℕ) (line : List ℕ) (rest : List (List ℕ)) (g : Finding) → LinesMeet K names day at (line ∷ rest) g → First-meets day at line rest g ⊎ LinesMeet K names (day + 1) (at + (length line + 1)) rest g
-  first-or-behind day at line rest g (ended p n m) =
+  pub first_or_behind : (day at : ℕ) (line : List ℕ) (rest : List (List ℕ)) (g : Finding) → LinesMeet K names day at (line ∷ rest) g → First-meets day at line rest g ⊎ LinesMeet K names (day + 1) (at + (length line + 1)) rest g
+  first_or_behind day at line rest g (ended p n m) =
       each_part line rest
       (λ b x a. (a ≡ [] → ⊥) → LineMeets K names (fields x) (day + length b) (at + spread b) g → First-meets day at line rest g ⊎ LinesMeet K names (day + 1) (at + (length line + 1)) rest g)
       (λ k l. inl (inl (k, moved (fields line) g (day + 0) day (at + 0) at (omega arith) (omega arith) l)))
       (λ q k l. inr (ended q k (moved (fields q.part) g _ (day + 1 + length q.before) _ (at + (length line + 1) + spread q.before) (omega arith) (omega arith) l)))
       p n m
-  first-or-behind day at line rest g (unended p z n e) =
+  first_or_behind day at line rest g (unended p z n e) =
       each_part line rest
       (λ b x a. a ≡ [] → (x ≡ [] → ⊥) → g ≡ finding 12 (day + length b + 1) (at + spread b) → First-meets day at line rest g ⊎ LinesMeet K names (day + 1) (at + (length line + 1)) rest g)
       (λ k l j.
@@ -56,8 +56,8 @@ module _ (K : Kind) (names : List (List ℕ)) where
       inr (unended q k l (j ∙ (ap (λ x. finding 12 x (at + spread (line ∷ q.before))) d ∙ ap (finding 12 (day + 1 + length q.before + 1)) a))))
       p z n e
 
-  pub first-meets : (day at : ℕ) (line : List ℕ) (rest : List (List ℕ)) (g : Finding) → First-meets day at line rest g → LinesMeet K names day at (line ∷ rest) g
-  first-meets day at line rest g =
+  pub first_meets : (day at : ℕ) (line : List ℕ) (rest : List (List ℕ)) (g : Finding) → First-meets day at line rest g → LinesMeet K names day at (line ∷ rest) g
+  first_meets day at line rest g =
       elim [
         | inl p ↦ ended (front line rest) p.0 (moved (fields line) g day (day + 0) at (at + 0) (omega arith) (omega arith) p.1)
         | inr p ↦
@@ -66,10 +66,10 @@ module _ (K : Kind) (names : List (List ℕ)) where
             unended (front line rest) p.0 p.1 (p.2 ∙ (ap (λ x. finding 12 x at) d ∙ ap (finding 12 (day + 0 + 1)) a))
       ]
 
-  pub behind-meets : (day at : ℕ) (line : List ℕ) (rest : List (List ℕ)) (g : Finding) → LinesMeet K names (day + 1) (at + (length line + 1)) rest g → LinesMeet K names day at (line ∷ rest) g
-  behind-meets day at line rest g (ended p n m) =
+  pub behind_meets : (day at : ℕ) (line : List ℕ) (rest : List (List ℕ)) (g : Finding) → LinesMeet K names (day + 1) (at + (length line + 1)) rest g → LinesMeet K names day at (line ∷ rest) g
+  behind_meets day at line rest g (ended p n m) =
       ended (behind line rest p) n (moved (fields p.part) g _ (day + length (line ∷ p.before)) _ (at + spread (line ∷ p.before)) (omega arith) (omega arith) m)
-  behind-meets day at line rest g (unended p z n e) =
+  behind_meets day at line rest g (unended p z n e) =
       let d : day + 1 + length p.before + 1 ≡ day + length (line ∷ p.before) + 1 = omega arith in
       let a : at + (length line + 1) + spread p.before ≡ at + spread (line ∷ p.before) = omega arith in
       unended (behind line rest p) z n (e ∙ (ap (λ x. finding 12 x (at + (length line + 1) + spread p.before)) d ∙ ap (finding 12 (day + length (line ∷ p.before) + 1)) a))
@@ -78,23 +78,23 @@ module _ (K : Kind) (names : List (List ℕ)) where
   no_lines day at g (ended p n m) = no_part p
   no_lines day at g (unended p z n e) = no_part p
 
-  some-behind : (q : List ℕ) (qs : List (List ℕ)) → q ∷ qs ≡ [] → ⊥
-  some-behind q qs e = let z : ◌≡◌ {A = ℕ} 0 1 = cc in omega arith
+  some_behind : (q : List ℕ) (qs : List (List ℕ)) → q ∷ qs ≡ [] → ⊥
+  some_behind q qs e = let z : ◌≡◌ {A = ℕ} 0 1 = cc in omega arith
 
   -- lines that are accepted meet nothing
-  pub lines-unmet : (day at : ℕ) (ps : List (List ℕ)) (xs : List (Of K)) → read_lines K names day at ps ≡ Ok xs → (g : Finding) → LinesMeet K names day at ps g → ⊥
-  lines-unmet day at [] xs h g m = no_lines day at g m
-  lines-unmet day at (p ∷ []) xs h g m =
+  pub lines_unmet : (day at : ℕ) (ps : List (List ℕ)) (xs : List (Of K)) → read_lines K names day at ps ≡ Ok xs → (g : Finding) → LinesMeet K names day at ps g → ⊥
+  lines_unmet day at [] xs h g m = no_lines day at g m
+  lines_unmet day at (p ∷ []) xs h g m =
       let c = cond_ok (none p) (Ok []) _ xs h in
-      elim (first-or-behind day at p [] g m) [
+      elim (first_or_behind day at p [] g m) [
         | inl k ↦ elim k [ inl j ↦ j.0 refl | inr j ↦ j.1 (none_empty p c.0) ]
         | inr k ↦ no_lines _ _ g k
       ]
-  lines-unmet day at (p ∷ q ∷ qs) xs h g m =
+  lines_unmet day at (p ∷ q ∷ qs) xs h g m =
       let u = push_ok (read_line K names day at (fields p)) (read_lines K names (day + 1) (at + (length p + 1)) (q ∷ qs)) xs h in
-      let more = lines-unmet (day + 1) (at + (length p + 1)) (q ∷ qs) u.1 u.3 g in
-      elim (first-or-behind day at p (q ∷ qs) g m) [
-        | inl k ↦ elim k [ inl j ↦ line-unmet K names (fields p) day at u.0 u.2 g j.1 | inr j ↦ some-behind q qs j.0 ]
+      let more = lines_unmet (day + 1) (at + (length p + 1)) (q ∷ qs) u.1 u.3 g in
+      elim (first_or_behind day at p (q ∷ qs) g m) [
+        | inl k ↦ elim k [ inl j ↦ line_unmet K names (fields p) day at u.0 u.2 g j.1 | inr j ↦ some_behind q qs j.0 ]
         | inr k ↦ more k
       ]
 
@@ -103,47 +103,47 @@ module _ (K : Kind) (names : List (List ℕ)) where
     pub met : LinesMeet K names day at ps f
     pub first : (g : Finding) → LinesMeet K names day at ps g → Before g f → ⊥
 
-  last-refused : (day at : ℕ) (p : List ℕ) (f : Finding) → none p ≡ false → f ≡ finding 12 (day + 1) at → First-in-lines day at (p ∷ []) f
-  last-refused day at p f n e =
+  last_refused : (day at : ℕ) (p : List ℕ) (f : Finding) → none p ≡ false → f ≡ finding 12 (day + 1) at → First-in-lines day at (p ∷ []) f
+  last_refused day at p f n e =
       record {
-        met = first-meets day at p [] f (inr (refl, λ k. both_ways (none p) n (ap none k), e));
+        met = first_meets day at p [] f (inr (refl, λ k. both_ways (none p) n (ap none k), e));
         first =
-            λ g m h. elim (first-or-behind day at p [] g m) [
+            λ g m h. elim (first_or_behind day at p [] g m) [
               | inl k ↦ elim k [ inl j ↦ j.0 refl | inr j ↦ not_itself g f (j.2 ∙ sym e) h ]
               | inr k ↦ no_lines _ _ g k
             ];
       }
 
-  first-refused : (day at : ℕ) (p q : List ℕ) (qs : List (List ℕ)) (f : Finding) → all_among (trace_names K) names ≡ true → read_line K names day at (fields p) ≡ Err f → First-in-lines day at (p ∷ q ∷ qs) f
-  first-refused day at p q qs f a h =
+  first_refused : (day at : ℕ) (p q : List ℕ) (qs : List (List ℕ)) (f : Finding) → all_among (trace_names K) names ≡ true → read_line K names day at (fields p) ≡ Err f → First-in-lines day at (p ∷ q ∷ qs) f
+  first_refused day at p q qs f a h =
       let r = line_refused K names (fields p) day at f a h in
       record {
-        met = first-meets day at p (q ∷ qs) f (inl (some-behind q qs, r.met));
+        met = first_meets day at p (q ∷ qs) f (inl (some_behind q qs, r.met));
         first =
-            λ g m b. elim (first-or-behind day at p (q ∷ qs) g m) [
-              | inl k ↦ elim k [ inl j ↦ r.first g j.1 b | inr j ↦ some-behind q qs j.0 ]
-              | inr k ↦ let i = in_lines (day + 1) (at + (length p + 1)) (q ∷ qs) g k in later_line g f (omega (arith, i.0, r.in-stage)) (omega (arith, i.1, r.on_line)) b
+            λ g m b. elim (first_or_behind day at p (q ∷ qs) g m) [
+              | inl k ↦ elim k [ inl j ↦ r.first g j.1 b | inr j ↦ some_behind q qs j.0 ]
+              | inr k ↦ let i = in_lines (day + 1) (at + (length p + 1)) (q ∷ qs) g k in later_line g f (omega (arith, i.0, r.in_stage)) (omega (arith, i.1, r.on_line)) b
             ];
       }
 
-  behind-refused : (day at : ℕ) (p q : List ℕ) (qs : List (List ℕ)) (f : Finding) (x : Of K) → read_line K names day at (fields p) ≡ Ok x → First-in-lines (day + 1) (at + (length p + 1)) (q ∷ qs) f → First-in-lines day at (p ∷ q ∷ qs) f
-  behind-refused day at p q qs f x h r =
+  behind_refused : (day at : ℕ) (p q : List ℕ) (qs : List (List ℕ)) (f : Finding) (x : Of K) → read_line K names day at (fields p) ≡ Ok x → First-in-lines (day + 1) (at + (length p + 1)) (q ∷ qs) f → First-in-lines day at (p ∷ q ∷ qs) f
+  behind_refused day at p q qs f x h r =
       record {
-        met = behind-meets day at p (q ∷ qs) f r.met;
+        met = behind_meets day at p (q ∷ qs) f r.met;
         first =
-            λ g m b. elim (first-or-behind day at p (q ∷ qs) g m) [
-              | inl k ↦ elim k [ inl j ↦ line-unmet K names (fields p) day at x h g j.1 | inr j ↦ some-behind q qs j.0 ]
+            λ g m b. elim (first_or_behind day at p (q ∷ qs) g m) [
+              | inl k ↦ elim k [ inl j ↦ line_unmet K names (fields p) day at x h g j.1 | inr j ↦ some_behind q qs j.0 ]
               | inr k ↦ r.first g k b
             ];
       }
 
-  pub lines-refused : (day at : ℕ) (ps : List (List ℕ)) (f : Finding) → all_among (trace_names K) names ≡ true → read_lines K names day at ps ≡ Err f → First-in-lines day at ps f
-  lines-refused day at [] f a h = absurd (not_refused [] f h)
-  lines-refused day at (p ∷ []) f a h =
-      elim (cond_err (none p) (Ok []) _ f h) [ inl k ↦ absurd (not_refused [] f k.1) | inr k ↦ last-refused day at p f k.0 k.1 ]
-  lines-refused day at (p ∷ q ∷ qs) f a h =
-      let more = lines-refused (day + 1) (at + (length p + 1)) (q ∷ qs) f a in
+  pub lines_refused : (day at : ℕ) (ps : List (List ℕ)) (f : Finding) → all_among (trace_names K) names ≡ true → read_lines K names day at ps ≡ Err f → First-in-lines day at ps f
+  lines_refused day at [] f a h = absurd (not_refused [] f h)
+  lines_refused day at (p ∷ []) f a h =
+      elim (cond_err (none p) (Ok []) _ f h) [ inl k ↦ absurd (not_refused [] f k.1) | inr k ↦ last_refused day at p f k.0 k.1 ]
+  lines_refused day at (p ∷ q ∷ qs) f a h =
+      let more = lines_refused (day + 1) (at + (length p + 1)) (q ∷ qs) f a in
       elim (push_err (read_line K names day at (fields p)) (read_lines K names (day + 1) (at + (length p + 1)) (q ∷ qs)) f h) [
-        | inl k ↦ first-refused day at p q qs f a k
-        | inr k ↦ behind-refused day at p q qs f k.0 k.1 (more k.2)
+        | inl k ↦ first_refused day at p q qs f a k
+        | inr k ↦ behind_refused day at p q qs f k.0 k.1 (more k.2)
       ]

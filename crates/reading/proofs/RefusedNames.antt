@@ -23,11 +23,11 @@ bad_leftmost known line at [] = refl
 bad_leftmost known line at (n ∷ ns) = ap (λ o. cond (right_name known line at n) o (Some at)) (bad_leftmost known line (at + length n + 1) ns)
 
 module _ (known line : List (List ℕ)) (p : PartOf line) where
-  unknown-fails : (Has known p.part → ⊥) → right_name known line (0 + spread p.before) p.part ≡ false
-  unknown-fails h = and_left (among p.part known) _ (has_not p.part known h)
+  unknown_fails : (Has known p.part → ⊥) → right_name known line (0 + spread p.before) p.part ≡ false
+  unknown_fails h = and_left (among p.part known) _ (has_not p.part known h)
 
-  repeated-fails : Has p.before p.part → right_name known line (0 + spread p.before) p.part ≡ false
-  repeated-fails h =
+  repeated_fails : Has p.before p.part → right_name known line (0 + spread p.before) p.part ≡ false
+  repeated_fails h =
       let s : start_under 0 line line p.part < 0 + spread p.before = subst (λ (l : List (List ℕ)). start_under 0 l l p.part < 0 + spread p.before) (sym p.are) (starts_earlier 0 p.part p.before p.after (has_among p.part p.before h)) in
       and_right (among p.part known) _ (ne_eqb (start_under 0 line line p.part) (0 + spread p.before) (λ e. omega arith))
 
@@ -68,15 +68,15 @@ by_byte g f a b p q h =
     elim (in_turn (finding 10 1 a) (finding 10 1 b) k (omega arith) (omega arith)) [ inl j ↦ absurd (omega arith) | inr j ↦ j.1 ]
 
 module _ (K : Kind) (names : List ℕ) (rest : List (List ℕ)) where
-  pub in-names-line : (g : Finding) → NamesMeet K names rest g → stage g ≡ 2
-  in-names-line g (unknown p k e) = rw e refl
-  in-names-line g (repeated p k e) = rw e refl
-  in-names-line g (missing n k m e) = rw e refl
-  in-names-line g (unended_names k e) = rw e refl
+  pub in_names_line : (g : Finding) → NamesMeet K names rest g → stage g ≡ 2
+  in_names_line g (unknown p k e) = rw e refl
+  in_names_line g (repeated p k e) = rw e refl
+  in_names_line g (missing n k m e) = rw e refl
+  in_names_line g (unended_names k e) = rw e refl
 
   -- the line that is accepted
-  pub names-pass : (x : Unit {0}) → check_names K names (not (none rest)) ≡ Ok x → (bad_name (trace_names K) (fields names) 0 (fields names) ≡ None) × (not (none rest) ≡ true) × (all_among (trace_names K) (fields names) ≡ true)
-  names-pass x h =
+  pub names_pass : (x : Unit {0}) → check_names K names (not (none rest)) ≡ Ok x → (bad_name (trace_names K) (fields names) 0 (fields names) ≡ None) × (not (none rest) ≡ true) × (all_among (trace_names K) (fields names) ≡ true)
+  names_pass x h =
       let u = unless_ok 10 1 (bad_name (trace_names K) (fields names) 0 (fields names)) _ x h in
       let c = cond_ok (not (none rest) && all_among (trace_names K) (fields names)) _ _ x u.1 in
       let p = and_parts (not (none rest)) _ c.0 in
@@ -85,11 +85,11 @@ module _ (K : Kind) (names : List ℕ) (rest : List (List ℕ)) where
   all_right : bad_name (trace_names K) (fields names) 0 (fields names) ≡ None → (p : PartOf (fields names)) → right_name (trace_names K) (fields names) (0 + spread p.before) p.part ≡ true
   all_right h = leftmost_none (right_name (trace_names K) (fields names)) 0 (fields names) (sym (bad_leftmost (trace_names K) (fields names) 0 (fields names)) ∙ h)
 
-  pub names-unmet : (x : Unit {0}) → check_names K names (not (none rest)) ≡ Ok x → (g : Finding) → NamesMeet K names rest g → ⊥
-  names-unmet x h g (unknown p k e) = both_ways _ (unknown-fails (trace_names K) (fields names) p k) (all_right (names-pass x h).0 p)
-  names-unmet x h g (repeated p k e) = both_ways _ (repeated-fails (trace_names K) (fields names) p k) (all_right (names-pass x h).0 p)
-  names-unmet x h g (missing n k m e) = m (among_has n (fields names) (all_there (trace_names K) (fields names) (names-pass x h).2 n (has_among n (trace_names K) k)))
-  names-unmet x h g (unended_names k e) = false≢true (sym (ap (λ (r : List (List ℕ)). not (none r)) k) ∙ (names-pass x h).1)
+  pub names_unmet : (x : Unit {0}) → check_names K names (not (none rest)) ≡ Ok x → (g : Finding) → NamesMeet K names rest g → ⊥
+  names_unmet x h g (unknown p k e) = both_ways _ (unknown_fails (trace_names K) (fields names) p k) (all_right (names_pass x h).0 p)
+  names_unmet x h g (repeated p k e) = both_ways _ (repeated_fails (trace_names K) (fields names) p k) (all_right (names_pass x h).0 p)
+  names_unmet x h g (missing n k m e) = m (among_has n (fields names) (all_there (trace_names K) (fields names) (names_pass x h).2 n (has_among n (trace_names K) k)))
+  names_unmet x h g (unended_names k e) = false≢true (sym (ap (λ (r : List (List ℕ)). not (none r)) k) ∙ (names_pass x h).1)
 
   -- the names line meets this condition, and none before it
   pub record First-in-names (f : Finding) : Type 0 where
@@ -109,11 +109,11 @@ module _ (K : Kind) (names : List ℕ) (rest : List (List ℕ)) where
     where
       left : (g : Finding) → Before g f → {s : ℕ} → byte ≡ s → s ≤ length names → ((p : PartOf (fields names)) → right_name (trace_names K) (fields names) (0 + spread p.before) p.part ≡ false → byte ≤ 0 + spread p.before) → NamesMeet K names rest g → ⊥
       left g b here within least (unknown p k j) =
-          let l = least p (unknown-fails (trace_names K) (fields names) p k) in
+          let l = least p (unknown_fails (trace_names K) (fields names) p k) in
           let o = by_byte g f (spread p.before) byte j e b in
           omega arith
       left g b here within least (repeated p k j) =
-          let l = least p (repeated-fails (trace_names K) (fields names) p k) in
+          let l = least p (repeated_fails (trace_names K) (fields names) p k) in
           let o = by_byte g f (spread p.before) byte j e b in
           omega arith
       left g b here within least (missing n k m j) = let o = by_byte g f (length names) byte j e b in omega arith
@@ -135,13 +135,13 @@ module _ (K : Kind) (names : List ℕ) (rest : List (List ℕ)) where
       nothing (x ∷ xs) k = absurd (true≢false k)
 
       left : (g : Finding) → NamesMeet K names rest g → Before g f → ⊥
-      left g (unknown p k j) b = both_ways _ (unknown-fails (trace_names K) (fields names) p k) (all_right h p)
-      left g (repeated p k j) b = both_ways _ (repeated-fails (trace_names K) (fields names) p k) (all_right h p)
+      left g (unknown p k j) b = both_ways _ (unknown_fails (trace_names K) (fields names) p k) (all_right h p)
+      left g (repeated p k j) b = both_ways _ (repeated_fails (trace_names K) (fields names) p k) (all_right h p)
       left g (missing n k m j) b = not_itself g f (j ∙ sym e) b
       left g (unended_names k j) b = not_itself g f (j ∙ sym e) b
 
-  pub names-refused : (f : Finding) → check_names K names (not (none rest)) ≡ Err f → First-in-names f
-  names-refused f h =
+  pub names_refused : (f : Finding) → check_names K names (not (none rest)) ≡ Err f → First-in-names f
+  names_refused f h =
       elim (unless_err 10 1 (bad_name (trace_names K) (fields names) 0 (fields names)) _ f h) [
         | inl b ↦ wrong_name f b.0 b.1 b.2
         | inr n ↦

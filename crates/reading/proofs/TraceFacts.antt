@@ -41,14 +41,14 @@ none_filled two has zeroed x y h =
 
 module _ (K : Kind) (L : Lawful K) {V : Type 0} (columns : V → Of K) where
   -- a first column put into zero
-  pub first-put : (z : V) (x : ℤ) (r : Option V) → columns z ≡ nought K.arity → GivesIf K columns (replaced K.arity (columns z) 1 x) r → Gives K columns (filled K.arity x (pos 0)) r
-  first-put z x r e h = subst (λ (o : Option (Of K)). GivesIf K columns o r) (ap (λ w. replaced K.arity w 1 x) e ∙ replaced_first K.arity x) h
+  pub first_put : (z : V) (x : ℤ) (r : Option V) → columns z ≡ nought K.arity → GivesIf K columns (replaced K.arity (columns z) 1 x) r → Gives K columns (filled K.arity x (pos 0)) r
+  first_put z x r e h = subst (λ (o : Option (Of K)). GivesIf K columns o r) (ap (λ w. replaced K.arity w 1 x) e ∙ replaced_first K.arity x) h
 
-  pub second-put : (t : V) (x y : ℤ) (r : Option V) → (code_of (column K.arity K.names 2) ≡ 0 → ⊥) → columns t ≡ filled K.arity x (pos 0) → GivesIf K columns (replaced K.arity (columns t) 2 y) r → Gives K columns (filled K.arity x y) r
-  second-put t x y r s e g = subst (λ (o : Option (Of K)). GivesIf K columns o r) (ap (λ w. replaced K.arity w 2 y) e ∙ replaced_second K.arity K.names s x y) g
+  pub second_put : (t : V) (x y : ℤ) (r : Option V) → (code_of (column K.arity K.names 2) ≡ 0 → ⊥) → columns t ≡ filled K.arity x (pos 0) → GivesIf K columns (replaced K.arity (columns t) 2 y) r → Gives K columns (filled K.arity x y) r
+  second_put t x y r s e g = subst (λ (o : Option (Of K)). GivesIf K columns o r) (ap (λ w. replaced K.arity w 2 y) e ∙ replaced_second K.arity K.names s x y) g
 
-  pub none-put : (x y : ℤ) → Gives K columns (filled K.arity x (pos 0)) None → Gives K columns (filled K.arity x y) None
-  none-put x y h = none_filled K.arity K.has L.zeroed x y h
+  pub none_put : (x y : ℤ) → Gives K columns (filled K.arity x (pos 0)) None → Gives K columns (filled K.arity x y) None
+  none_put x y h = none_filled K.arity K.has L.zeroed x y h
 
 -- a fault that the checks of a line's fields found
 checked_broke : (o : Option ℕ) (right : Bool) (byte line : ℕ) (f : FaultAtLine) (r : Result (Unit {0}) Finding) → Err f ≡ at_line line (then (at_figure o) (at_day right byte)) → Err (record { number = number (field_refusal f.fault); line = f.line; byte = field_byte f.fault }) ≡ unless_at 11 line o (cond right r (refuse 13 line byte))

@@ -2,7 +2,7 @@
 ghost use Rattle.std.specs.Prelude.{◌≡◌, ℕ, ◌+◌, ◌^◌, ◌<◌, ◌≤◌, length, Err};
 ghost use Rattle.kinds.specs.Kinds.{Gives};
 ghost use Rattle.figures.specs.declared.heading.Heading.TheVariants.{Day};
-ghost use Rattle.figures.specs.Headings.{letters, heading, heading_if, first as first_of, second as second-of};
+ghost use Rattle.figures.specs.Headings.{letters, heading, heading_if, first as first_of, second as second_of};
 ghost use Rattle.reading.specs.Parts.{fields, start_under};
 ghost use Rattle.reading.specs.Traces.{malformed, number_under, number_if, is_day, filled, entered, check_line, then, read_line, told, Placed};
 ghost use Rattle.refusals.specs.Faults.{at_figure, at_day, line_found, OnLine};
@@ -80,7 +80,7 @@ fn first_number<K: Total>(names: &[u8], line: &[u8]) -> i64
 
 // The number under the name of its second column, 0 where it has none.
 fn second_number<K: Total>(names: &[u8], line: &[u8]) -> i64
-    ensures { result ≡ number_if (fields names.now) (fields line.now) (heading_if (second-of K.Total.kind.arity K.Total.kind.names)) }
+    ensures { result ≡ number_if (fields names.now) (fields line.now) (heading_if (second_of K.Total.kind.arity K.Total.kind.names)) }
 {
     match second_column::<K>() {
         Some(name) => number_under(names, line, name.letters()),

@@ -3,7 +3,7 @@ use Rattle.std.specs.Prelude.{◌≡◌, ℕ, ◌+◌, ◌≤◌, Bool, cond, So
 use Rattle.refusals.specs.declared.refusal.Refusal.{Refusal}
 use Rattle.refusals.specs.declared.refusal.Refusal.TheVariants.{WrongNames, MalformedFigure, DayOutOfTurn, WrongFields, TooManyDays, MayNotEnter}
 use Rattle.refusals.specs.declared.refusal.Place.{Place}
-use Rattle.refusals.specs.Table.{number, day as day-of}
+use Rattle.refusals.specs.Table.{number, day as day_of}
 use Rattle.refusals.specs.declared.fault.FieldFault.{FieldFault}
 use Rattle.refusals.specs.declared.fault.FieldFault.TheVariants.{BadName, BadFigure, BadDay}
 use Rattle.refusals.specs.declared.fault.FaultAtLine.{FaultAtLine}
@@ -77,7 +77,7 @@ OnLine (BadTotal line byte day) = line ≡ day + 1
 -- names no day
 abbrev pub InReading : FileFault → Type 0
 InReading (Reading fault) = OnLine fault
-InReading (ReadingWhole refusal) = day-of refusal ≡ 0
+InReading (ReadingWhole refusal) = day_of refusal ≡ 0
 InReading (Taking refusal) = ⊥
 InReading (Writing refusal) = ⊥
 

@@ -6,13 +6,13 @@ use Rattle.std.proofs.lemmas.List.{length-append}
 use Rattle.std.proofs.lemmas.Fmt.{length-decimal-le}
 use Rattle.std.proofs.lemmas.Bool.{ltb-true}
 use Rattle.kinds.specs.Columns.{Arity, one, two, Columns, fits64, within}
-use Rattle.kinds.specs.Columns.{All as Each-column}
+use Rattle.kinds.specs.Columns.{All as EachColumn}
 use Rattle.kinds.specs.Kinds.{Kind, Lawful}
 use Rattle.transform.specs.Windows.{Record}
 use Rattle.transform.specs.Pulses.{Pulse, pulses}
-use Rattle.transform.proofs.Counts.{pulses-few}
-use Rattle.transform.proofs.Endings.{pulses-within}
-use Rattle.transform.proofs.Ranges.{in-range}
+use Rattle.transform.proofs.Counts.{pulses_few}
+use Rattle.transform.proofs.Endings.{pulses_within}
+use Rattle.transform.proofs.Ranges.{in_range}
 use Rattle.writer.specs.declared.value.Word.{Word}
 use Rattle.writer.specs.declared.value.Word.TheVariants.{In, Out}
 use Rattle.writer.specs.declared.value.Value.TheVariants.{Amount, Word as word}
@@ -49,7 +49,7 @@ spelled_short : (w : Word) → length (spelled w) ≤ 3
 spelled_short In = omega arith
 spelled_short Out = omega arith
 
-columns_short : (a : Arity) (x : Columns a) (w : Word) → Each-column a (λ v. fits64 v ≡ true) x → widths shown (map Amount (first a x ∷ if_any (second a x)) ++ word w ∷ []) ≤ 46
+columns_short : (a : Arity) (x : Columns a) (w : Word) → EachColumn a (λ v. fits64 v ≡ true) x → widths shown (map Amount (first a x ∷ if_any (second a x)) ++ word w ∷ []) ≤ 46
 columns_short one x w f = omega (arith, signed_short x f, spelled_short w)
 columns_short two x w f = omega (arith, signed_short x.0 f.0, signed_short x.1 f.1, spelled_short w)
 
@@ -58,9 +58,9 @@ module _ (K : Kind) (O : Lawful K) where
   abbrev Slim : Pulse K → Type 0
   Slim p = (p.first ≤ 1000) × (p.width ≤ 1000) × (K.has p.amount ≡ true)
 
-  line-short : (n : ℕ) (p : Pulse K) (out : Bool) → n ≤ 1000 → Slim p → length (pulse_line K n p out) ≤ 61
+  line_short : (n : ℕ) (p : Pulse K) (out : Bool) → n ≤ 1000 → Slim p → length (pulse_line K n p out) ≤ 61
   unfolding pulse_values
-  line-short n p out h s =
+  line_short n p out h s =
       omega (
         arith,
         written_length shown (pulse_values K n p.width p.first p.amount (state out)),
@@ -70,21 +70,21 @@ module _ (K : Kind) (O : Lawful K) where
         columns_short K.arity p.amount (state out) (O.fitting p.amount s.2),
       )
 
-  lines-short : (out : Pulse K → Bool) (n : ℕ) (ps : List (Pulse K)) → n + length ps ≤ 1001 → All Slim ps → length (pulse_lines K out n ps) ≤ 61 * length ps
+  lines_short : (out : Pulse K → Bool) (n : ℕ) (ps : List (Pulse K)) → n + length ps ≤ 1001 → All Slim ps → length (pulse_lines K out n ps) ≤ 61 * length ps
   unfolding pulse_lines
-  lines-short out n [] h a = omega arith
-  lines-short out n (p ∷ ps) h a =
-      let l = line-short n p (out p) (omega arith) a.0 in
-      let m = lines-short out (suc n) ps (omega arith) a.1 in
+  lines_short out n [] h a = omega arith
+  lines_short out n (p ∷ ps) h a =
+      let l = line_short n p (out p) (omega arith) a.0 in
+      let m = lines_short out (suc n) ps (omega arith) a.1 in
       omega (arith, length-append (pulse_line K n p (out p)) (pulse_lines K out (suc n) ps))
 
-  all-slim : (ps : List (Pulse K)) (days : ℕ) → days ≤ 1000 → All (λ p. (1 ≤ p.first) × (1 ≤ p.width) × (p.first + p.width ≤ days + 1)) ps → All (λ p. K.has p.amount ≡ true) ps → All Slim ps
-  all-slim [] days l a b = tt
-  all-slim (p ∷ ps) days l a b = ((omega (arith, a.0.0, a.0.1, a.0.2), omega (arith, a.0.0, a.0.1, a.0.2), b.0), all-slim ps days l a.1 b.1)
+  all_slim : (ps : List (Pulse K)) (days : ℕ) → days ≤ 1000 → All (λ p. (1 ≤ p.first) × (1 ≤ p.width) × (p.first + p.width ≤ days + 1)) ps → All (λ p. K.has p.amount ≡ true) ps → All Slim ps
+  all_slim [] days l a b = tt
+  all_slim (p ∷ ps) days l a b = ((omega (arith, a.0.0, a.0.1, a.0.2), omega (arith, a.0.0, a.0.1, a.0.2), b.0), all_slim ps days l a.1 b.1)
 
-  pub pulses-short : (out : Pulse K → Bool) (xs : Record K) → length xs ≤ 1000 → All (λ x. within K.arity K.bound x ≡ true) xs → length (pulse_lines K out 1 (pulses K xs)) ≤ 61000
-  pulses-short out xs l w =
-      let few = pulses-few K O xs in
-      let s = all-slim (pulses K xs) (length xs) l (pulses-within K O xs) (in-range K O xs l w).0 in
-      let m = lines-short out 1 (pulses K xs) (omega arith) s in
+  pub pulses_short : (out : Pulse K → Bool) (xs : Record K) → length xs ≤ 1000 → All (λ x. within K.arity K.bound x ≡ true) xs → length (pulse_lines K out 1 (pulses K xs)) ≤ 61000
+  pulses_short out xs l w =
+      let few = pulses_few K O xs in
+      let s = all_slim (pulses K xs) (length xs) l (pulses_within K O xs) (in_range K O xs l w).0 in
+      let m = lines_short out 1 (pulses K xs) (omega arith) s in
       omega arith

@@ -86,8 +86,8 @@ module _ (K : Kind) (m : ℕ) where
   abbrev pub Enters : Of K → Type 0
   Enters x = within K.arity K.bound x ≡ true
 
-  check-fair : (names : List (List ℕ)) (day at : ℕ) (values : List (List ℕ)) → day + 1 ≤ m → at + span values ≤ m → Fair m Any (check_line names day at values)
-  check-fair names day at values d h =
+  check_fair : (names : List (List ℕ)) (day at : ℕ) (values : List (List ℕ)) → day + 1 ≤ m → at + span values ≤ m → Fair m Any (check_line names day at values)
+  check_fair names day at values d h =
       cond_both (eqb (length values) (length names)) _ _ (Fair m Any)
       (λ e. fair_unless m Any 11 (day + 1) (malformed at values) _ (omega arith) d (up_to_more (at + span values) m _ h (malformed_place at values))
       (cond_both (is_day day (number_under names values (letters Day))) _ _ (Fair m Any)
@@ -95,24 +95,24 @@ module _ (K : Kind) (m : ℕ) where
       (λ e. (omega arith, d, omega (arith, start_place at names values (letters Day))))))
       (λ e. (omega arith, d, omega arith))
 
-  line-fair : (names : List (List ℕ)) (day at : ℕ) (values : List (List ℕ)) → day + 1 ≤ m → at + span values ≤ m → Fair m Enters (read_line K names day at values)
-  line-fair names day at values d h =
+  line_fair : (names : List (List ℕ)) (day at : ℕ) (values : List (List ℕ)) → day + 1 ≤ m → at + span values ≤ m → Fair m Enters (read_line K names day at values)
+  line_fair names day at values d h =
       let x = columns_under K.arity K.names names values in
-      fair_then m Any Enters (check_line names day at values) _ (check-fair names day at values d h)
+      fair_then m Any Enters (check_line names day at values) _ (check_fair names day at values d h)
       (cond_both (K.has x && within K.arity K.bound x) _ _ (Fair m Enters) (λ e. (and_parts (K.has x) (within K.arity K.bound x) e).1) (λ e. (omega arith, d, omega arith)))
 
-  push-fair : (r : Result (Of K) Finding) (rs : Result (List (Of K)) Finding) → Fair m Enters r → Fair m (All Enters) rs → Fair m (All Enters) (push r rs)
-  push-fair (Ok x) (Ok xs) p q = (p, q)
-  push-fair (Ok x) (Err f) p q = q
-  push-fair (Err f) rs p q = p
+  push_fair : (r : Result (Of K) Finding) (rs : Result (List (Of K)) Finding) → Fair m Enters r → Fair m (All Enters) rs → Fair m (All Enters) (push r rs)
+  push_fair (Ok x) (Ok xs) p q = (p, q)
+  push_fair (Ok x) (Err f) p q = q
+  push_fair (Err f) rs p q = p
 
-  lines-fair : (names : List (List ℕ)) (day at : ℕ) (ls : List (List ℕ)) → day + 1 + span ls ≤ m → at + span ls ≤ m → Fair m (All Enters) (read_lines K names day at ls)
-  lines-fair names day at [] d h = tt
-  lines-fair names day at (l ∷ rest) d h =
+  lines_fair : (names : List (List ℕ)) (day at : ℕ) (ls : List (List ℕ)) → day + 1 + span ls ≤ m → at + span ls ≤ m → Fair m (All Enters) (read_lines K names day at ls)
+  lines_fair names day at [] d h = tt
+  lines_fair names day at (l ∷ rest) d h =
       let s = span_parts 44 l in
       cond_both (none rest) _ _ (Fair m (All Enters))
       (λ e. cond_both (none l) _ _ (Fair m (All Enters)) (λ f. tt) (λ f. (omega arith, omega arith, omega arith)))
-      (λ e. push-fair _ _ (line-fair names day at (fields l) (omega arith) (omega arith)) (lines-fair names (day + 1) (at + (length l + 1)) rest (omega arith) (omega arith)))
+      (λ e. push_fair _ _ (line_fair names day at (fields l) (omega arith) (omega arith)) (lines_fair names (day + 1) (at + (length l + 1)) rest (omega arith) (omega arith)))
 
   all_fair : (ls : List (List ℕ)) → 1 + span ls ≤ m → Fair m (All Enters) (read_all K ls)
   all_fair [] h = tt
@@ -122,7 +122,7 @@ module _ (K : Kind) (m : ℕ) where
       (fair_unless m Any 10 1 (bad_name (trace_names K) (fields names) 0 (fields names)) _ (omega arith) (omega arith)
       (up_to_more (0 + span (fields names)) m _ (omega arith) (bad_name_place (trace_names K) (fields names) 0 (fields names)))
       (cond_both (not (none rest) && all_among (trace_names K) (fields names)) _ _ (Fair m Any) (λ e. tt) (λ e. (omega arith, omega arith, omega arith))))
-      (lines-fair (fields names) 1 (length names + 1) rest (omega arith) (omega arith))
+      (lines_fair (fields names) 1 (length names + 1) rest (omega arith) (omega arith))
 
 -- a record that was read is short, and its totals may be entered
 abbrev pub Fit : (K : Kind) → ℕ → List (Of K) → Type 0

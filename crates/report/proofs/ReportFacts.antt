@@ -16,7 +16,7 @@ use Rattle.writer.specs.Values.{line, shown}
 use Rattle.report.specs.PulseTexts.{pulse_lines}
 use Rattle.report.specs.Reports.{names_pieces, told, report_as, report_of, most_bytes, ReportsFit}
 use Rattle.report.proofs.ReadFacts.{Near, Fair, Fit, text_fair}
-use Rattle.report.proofs.LengthFacts.{pulses-short, written_length}
+use Rattle.report.proofs.LengthFacts.{pulses_short, written_length}
 
 whole_lawful : (bound : ℕ) (name : Name) → Sound bound → Lawful (whole bound name)
 whole_lawful bound name s = search rules
@@ -40,15 +40,15 @@ refusal_short m f h (a, b, c) =
     )
 
 module _ (K : Kind) (O : Lawful K) (short : length (line letters (pulse_names K)) ≤ 100) where
-  told-short : (r : Result (Record K) Finding) → Fair 40002 (Fit K 1000) r → length (told K r) ≤ most_bytes
-  told-short (Ok xs) (l, w) =
-      let h = pulses-short K O (λ p. false) xs l w in
+  told_short : (r : Result (Record K) Finding) → Fair 40002 (Fit K 1000) r → length (told K r) ≤ most_bytes
+  told_short (Ok xs) (l, w) =
+      let h = pulses_short K O (λ p. false) xs l w in
       omega (arith, length-append (line letters (pulse_names K)) (pulse_lines K (λ p. false) 1 (pulses K xs)))
-  told-short (Err f) n = refusal_short 40002 f (omega arith) n
+  told_short (Err f) n = refusal_short 40002 f (omega arith) n
 
   as_short : (text : List ℕ) → length (report_as K text) ≤ most_bytes
   unfolding report_as
-  as_short text = told-short (read_text K 1000 text) (text_fair K 1000 text)
+  as_short text = told_short (read_text K 1000 text) (text_fair K 1000 text)
 
 paper_names : length (line letters (pulse_names paper)) ≤ 100
 unfolding pulse_names

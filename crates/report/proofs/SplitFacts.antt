@@ -49,44 +49,44 @@ write_stop K s before after Unreachable (h, S) T = absurd (T.0 h S)
 
 -- a record that is accepted is taken, and the history goes on
 module _ (K : Kind) (xs : Record K) (entries : ℕ) (before after : State) (x : Result ℕ Refusal) (T : RecordTaken K xs entries before after x) where
-  pub taken-never : (f : NotTaken) → Accepted K xs entries (length before.slots) → Err f ≡ in_taking x → ⊥
-  taken-never f A e = A f.refusal (subst (RecordTaken K xs entries before after) (taken_err x f (sym e)) T)
+  pub taken_never : (f : NotTaken) → Accepted K xs entries (length before.slots) → Err f ≡ in_taking x → ⊥
+  taken_never f A e = A f.refusal (subst (RecordTaken K xs entries before after) (taken_err x f (sym e)) T)
 
-  taken-well : (n : ℕ) → Ok n ≡ in_taking x → RecordTaken K xs entries before after (Ok n)
-  taken-well n e = subst (RecordTaken K xs entries before after) (taken_ok x n (sym e)) T
+  taken_well : (n : ℕ) → Ok n ≡ in_taking x → RecordTaken K xs entries before after (Ok n)
+  taken_well n e = subst (RecordTaken K xs entries before after) (taken_ok x n (sym e)) T
 
-  pub taken-on : (n : ℕ) → Ok n ≡ in_taking x → Shows K [] before → (h : Calls K) × Shows K h after
-  taken-on n e S = (taking xs entries ∷ [], (taken-well n e).1 [] S)
+  pub taken_on : (n : ℕ) → Ok n ≡ in_taking x → Shows K [] before → (h : Calls K) × Shows K h after
+  taken_on n e S = (taking xs entries ∷ [], (taken_well n e).1 [] S)
 
   -- the text of the sheet is that of the record's pulses
   due : (n : ℕ) → Ok n ≡ in_taking x → (out end : List ℕ) (y : Result ℕ Refusal) → Reported (sheet_text K after) out end y → Reported (pulse_text K (λ p. false) (pulses K xs)) out end y
-  due n e out end y R = subst (λ bs. Reported bs out end y) (taken_text K xs before after (taken-well n e).0) R
+  due n e out end y R = subst (λ bs. Reported bs out end y) (taken_text K xs before after (taken_well n e).0) R
 
-  pub due-ok : (n : ℕ) → Ok n ≡ in_taking x → (out end : List ℕ) (y : Result ℕ Refusal) (m : ℕ) → Reported (sheet_text K after) out end y → Ok m ≡ in_writing y →
+  pub due_ok : (n : ℕ) → Ok n ≡ in_taking x → (out end : List ℕ) (y : Result ℕ Refusal) (m : ℕ) → Reported (sheet_text K after) out end y → Ok m ≡ in_writing y →
       TextDue (pulse_text K (λ p. false) (pulses K xs)) out end (Ok m)
-  due-ok n e out end y m R f = subst (Reported (pulse_text K (λ p. false) (pulses K xs)) out end) (written_ok y m (sym f)) (due n e out end y R)
+  due_ok n e out end y m R f = subst (Reported (pulse_text K (λ p. false) (pulses K xs)) out end) (written_ok y m (sym f)) (due n e out end y R)
 
-  pub due-err : (n : ℕ) → Ok n ≡ in_taking x → (out end : List ℕ) (y : Result ℕ Refusal) (w : NotWritten) → Reported (sheet_text K after) out end y → Err w ≡ in_writing y →
+  pub due_err : (n : ℕ) → Ok n ≡ in_taking x → (out end : List ℕ) (y : Result ℕ Refusal) (w : NotWritten) → Reported (sheet_text K after) out end y → Err w ≡ in_writing y →
       TextDue (pulse_text K (λ p. false) (pulses K xs)) out end (Err (Writing w.refusal))
-  due-err n e out end y w R f =
+  due_err n e out end y w R f =
       let (r, W) = subst (Reported (pulse_text K (λ p. false) (pulses K xs)) out end) (written_err y w (sym f)) (due n e out end y R) in
       (ap Writing r, W)
 
 -- a record that was read
 module _ (K : Kind) (text : List ℕ) (room : ℕ) (xs : Record K) (full : room ≡ 1000) (read : read_text K room text ≡ Ok xs) where
-  read-full : read_text K 1000 text ≡ Ok xs
-  read-full = ap (λ n. read_text K n text) (sym full) ∙ read
+  read_full : read_text K 1000 text ≡ Ok xs
+  read_full = ap (λ n. read_text K n text) (sym full) ∙ read
 
   fit : Fit K 1000 xs
-  fit = subst (Fair 40002 (Fit K 1000)) read-full (text_fair K 1000 text)
+  fit = subst (Fair 40002 (Fit K 1000)) read_full (text_fair K 1000 text)
 
   pub not_refused : (entries capacity : ℕ) → 1002 ≤ entries → 1000 ≤ capacity → Accepted K xs entries capacity
   not_refused entries capacity e c = let (l, w) = fit in accepted K xs entries capacity l w (omega arith) (omega arith)
 
-  text-is : pulse_text K (λ p. false) (pulses K xs) ≡ report_as K text
+  text_is : pulse_text K (λ p. false) (pulses K xs) ≡ report_as K text
   unfolding report_as
-  text-is = sym (ap (told K) read-full)
+  text_is = sym (ap (told K) read_full)
 
-  pub pulses-written : (out end : List ℕ) (r : Result ℕ FileFault) → TextDue (pulse_text K (λ p. false) (pulses K xs)) out end r → PulsesWritten K text out end r
-  pulses-written out end (Ok n) w = subst (λ bs. TextDue bs out end (Ok n)) text-is w
-  pulses-written out end (Err fault) w = inl (subst (λ bs. TextDue bs out end (Err fault)) text-is w)
+  pub pulses_written : (out end : List ℕ) (r : Result ℕ FileFault) → TextDue (pulse_text K (λ p. false) (pulses K xs)) out end r → PulsesWritten K text out end r
+  pulses_written out end (Ok n) w = subst (λ bs. TextDue bs out end (Ok n)) text_is w
+  pulses_written out end (Err fault) w = inl (subst (λ bs. TextDue bs out end (Err fault)) text_is w)

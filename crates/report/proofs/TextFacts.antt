@@ -184,21 +184,21 @@ module _ (K : Kind) (slots : List (Option Entry)) (out : Pulse K → Bool) (ps :
       ap (row_line K (k + 1)) (ap (λ i. get_or slots i None) back ∙ rows k (no_pulse K) h)
       ∙ ap (λ x. line shown (pulse_values K (k + 1) p.width p.first x (state (out p)))) (unlisted_listed K.arity p.amount)
 
-  first-lines : (n : ℕ) → n ≤ length ps → row_lines K n slots ≡ pulse_lines K out 1 (take n ps)
-  first-lines zero h = rows_none K slots ∙ sym (lines_none K out 1)
-  first-lines (suc n) h =
+  first_lines : (n : ℕ) → n ≤ length ps → row_lines K n slots ≡ pulse_lines K out 1 (take n ps)
+  first_lines zero h = rows_none K slots ∙ sym (lines_none K out 1)
+  first_lines (suc n) h =
       let p = get_or ps n (no_pulse K) in
       let l : n < length ps = omega arith in
       let m : 1 + length (take n ps) ≡ n + 1 = omega (arith, length-take-le n ps (omega arith)) in
       let t : take (suc n) ps ≡ take n ps ++ p ∷ [] = ap (λ i. take i ps) (sym (add-one n)) ∙ take_more ps n (no_pulse K) l in
       ap (λ i. row_lines K i slots) (sym (add-one n))
       ∙ (rows_more K slots n
-      ∙ (ap (λ bs. bs ++ slot_line K slots (n + 1)) (first-lines n (omega arith))
+      ∙ (ap (λ bs. bs ++ slot_line K slots (n + 1)) (first_lines n (omega arith))
       ∙ (ap (λ bs. pulse_lines K out 1 (take n ps) ++ bs) (one_line n l ∙ (sym (lines_one K out (n + 1) p) ∙ ap (λ i. pulse_lines K out i (p ∷ [])) (sym m)))
       ∙ (sym (lines_append K out 1 (take n ps) (p ∷ [])) ∙ ap (pulse_lines K out 1) (sym t)))))
 
   pub all_lines : row_lines K (length ps) slots ≡ pulse_lines K out 1 ps
-  all_lines = first-lines (length ps) (omega arith) ∙ ap (pulse_lines K out 1) (take_all (length ps) ps (omega arith))
+  all_lines = first_lines (length ps) (omega arith) ∙ ap (pulse_lines K out 1) (take_all (length ps) ps (omega arith))
 
 -- what the text is to the history
 strays_never : (K : Kind) (h : Calls K) (s : State) (before after : List ℕ) (r : Result ℕ Stop) → Shows K h s → TextWritten K s before after r → Strays r → ⊥

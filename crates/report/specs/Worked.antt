@@ -1,7 +1,7 @@
 -- Records and texts worked through: one list, and what it is for all of it to be right.
 use Rattle.std.specs.Prelude.{◌≡◌, ℕ, List, [], ◌∷◌, ◌++◌, map, codes}
 use Rattle.transform.specs.Examples.{Example, examples}
-use Rattle.transform.specs.Examples.{Right as Record-right}
+use Rattle.transform.specs.Examples.{Right as RecordRight}
 use Rattle.report.specs.Reports.{report_of}
 
 -- a record with its pulses, what stands and its swing; or a text with its report
@@ -10,7 +10,7 @@ pub data Worked : Type 0 where
   of_text : List ℕ → List ℕ → Worked
 
 abbrev pub Right : Worked → Type 0
-Right (of_record e) = Record-right e
+Right (of_record e) = RecordRight e
 Right (of_text text report) = report_of text ≡ report
 
 abbrev pub AllRight : List Worked → Type 0

@@ -19,20 +19,20 @@ unlisted_listed two x = refl
 
 module _ (K : Kind) (first width : ℕ) (x : Of K) (d : ℕ) where
   -- a pulse alone
-  pub alone-covering : (leb first d && ltb d (first + width)) ≡ true → standing K (pulse_of K (record { first = first; width = width; out = false; columns = listed K.arity x }) ∷ []) d ≡ x
+  pub alone_covering : (leb first d && ltb d (first + width)) ≡ true → standing K (pulse_of K (record { first = first; width = width; out = false; columns = listed K.arity x }) ∷ []) d ≡ x
   unfolding standing covers
-  alone-covering e = rw (e, plus_nought) (unlisted_listed K.arity x)
+  alone_covering e = rw (e, plus_nought) (unlisted_listed K.arity x)
 
-  pub alone-apart : (leb first d && ltb d (first + width)) ≡ false → standing K (pulse_of K (record { first = first; width = width; out = false; columns = listed K.arity x }) ∷ []) d ≡ nought K.arity
+  pub alone_apart : (leb first d && ltb d (first + width)) ≡ false → standing K (pulse_of K (record { first = first; width = width; out = false; columns = listed K.arity x }) ∷ []) d ≡ nought K.arity
   unfolding standing covers
-  alone-apart e = rw (e, plus_nought) refl
+  alone_apart e = rw (e, plus_nought) refl
 
-  pub row-adds : (mark : ℕ) → mark ≡ 0 → (leb first d && ltb d (first + width)) ≡ true → standing K (stands_in K (slot_of first width mark (listed K.arity x))) d ≡ x
-  row-adds mark m e = rw m (alone-covering e)
+  pub row_adds : (mark : ℕ) → mark ≡ 0 → (leb first d && ltb d (first + width)) ≡ true → standing K (stands_in K (slot_of first width mark (listed K.arity x))) d ≡ x
+  row_adds mark m e = rw m (alone_covering e)
 
-  pub row-adds-none : (mark : ℕ) → mark ≤ 1 → (mark ≡ 0 → ⊥) ⊎ ((leb first d && ltb d (first + width)) ≡ false) → standing K (stands_in K (slot_of first width mark (listed K.arity x))) d ≡ nought K.arity
-  row-adds-none mark h e = elim (cases_eq mark 0) [
-    | inl z ↦ elim e [ inl f ↦ absurd (f z) | inr f ↦ rw z (alone-apart f) ]
+  pub row_adds_none : (mark : ℕ) → mark ≤ 1 → (mark ≡ 0 → ⊥) ⊎ ((leb first d && ltb d (first + width)) ≡ false) → standing K (stands_in K (slot_of first width mark (listed K.arity x))) d ≡ nought K.arity
+  row_adds_none mark h e = elim (cases_eq mark 0) [
+    | inl z ↦ elim e [ inl f ↦ absurd (f z) | inr f ↦ rw z (alone_apart f) ]
     | inr z ↦ let m : mark ≡ 1 = omega arith in rw m (standing_none K d)
   ]
 

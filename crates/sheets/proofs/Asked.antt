@@ -21,8 +21,8 @@ use Rattle.sheets.specs.Inside.{RowHeld, Stands, Steps, step, SwingsSoFar}
 use Rattle.sheets.proofs.Slots.{slot_cases}
 use Rattle.sheets.proofs.History.{shows_full}
 use Rattle.sheets.proofs.Bounds.{Within, Fair}
-use Rattle.transform.proofs.Ranges.{up_to_plus, up_to_minus, up_to_more, up_to_nought, size-up-to, summed-up-to}
-use Rattle.sheets.proofs.Shown.{shown-fair, shown-days, standing-small, never-lacks}
+use Rattle.transform.proofs.Ranges.{up_to_plus, up_to_minus, up_to_more, up_to_nought, size_up_to, summed_up_to}
+use Rattle.sheets.proofs.Shown.{shown_fair, shown_days, standing_small, never_lacks}
 
 -- sizes
 module _ (K : Kind) (O : Lawful K) (x z : Of K) (e : z ≡ nought K.arity) where
@@ -30,9 +30,9 @@ module _ (K : Kind) (O : Lawful K) (x z : Of K) (e : z ≡ nought K.arity) where
   unfolding size
   size_below h = rw (e) (sym (cond-true _ _ _ (rw e at h)))
 
-  pub size-equal : x ≡ z → x ≡ size K x
+  pub size_equal : x ≡ z → x ≡ size K x
   unfolding size
-  size-equal h = sym (cond-false _ _ _ (ap (λ y. K.below y (nought K.arity)) (h ∙ e) ∙ O.irreflexive _))
+  size_equal h = sym (cond-false _ _ _ (ap (λ y. K.below y (nought K.arity)) (h ∙ e) ∙ O.irreflexive _))
 
   pub size_above : K.below z x ≡ true → x ≡ size K x
   unfolding size
@@ -42,7 +42,7 @@ module _ (K : Kind) (O : Lawful K) (x z : Of K) (e : z ≡ nought K.arity) where
 pub total_comes : {V : Type 0} (K : Kind) (O : Lawful K) (columns : V → Of K) (s : State) (d : ℕ) (r : Result V Stop) → Stands K columns s.slots s.count d r → ComesOut K columns s (standing_total K s d) r
 total_comes K O columns s d (Ok v) e = e
 total_comes K O columns s d (Err (Refused r)) e = e
-total_comes K O columns s d (Err Unreachable) l = λ h S. never-lacks K h s S O d l
+total_comes K O columns s d (Err Unreachable) l = λ h S. never_lacks K h s S O d l
 
 -- a trace, day by day
 pub days_none : (K : Kind) (x : Trace K) → days K 0 x ≡ []
@@ -97,62 +97,62 @@ unfolding swing
 swing_all K s = refl
 
 module _ (K : Kind) (O : Lawful K) (h : Calls K) (s : State) (S : Shows K h s) where
-  trace-small : (d : ℕ) → Within K 2000 (trace K (standing_trace K s) d)
-  trace-small d = elim (cases_lt s.days d) [
+  trace_small : (d : ℕ) → Within K 2000 (trace K (standing_trace K s) d)
+  trace_small d = elim (cases_lt s.days d) [
     | inl l ↦ rw (days_past K s.days (standing_total K s) d l) (up_to_nought K.arity K.bound 2000)
     | inr l ↦ elim (cases_eq d 0) [
       | inl e ↦ rw (e, days_before K s.days (standing_total K s)) (up_to_nought K.arity K.bound 2000)
       | inr e ↦
           let z : d ≡ (d - 1) + 1 = omega arith in
           subst (λ i. Within K 2000 (trace K (standing_trace K s) i)) (sym z)
-          (rw (days_inside K s.days (standing_total K s) (d - 1) (omega arith)) (standing-small K h s S O s.count ((d - 1) + 1) (omega arith)))
+          (rw (days_inside K s.days (standing_total K s) (d - 1) (omega arith)) (standing_small K h s S O s.count ((d - 1) + 1) (omega arith)))
     ]
   ]
 
-  has-small : (n : ℕ) (x : Of K) → n ≤ 5000000 → Within K n x → K.has x ≡ true
-  has-small n x l w = O.roomy x (up_to_more K.arity K.bound n 5000000 x l w)
+  has_small : (n : ℕ) (x : Of K) → n ≤ 5000000 → Within K n x → K.has x ≡ true
+  has_small n x l w = O.roomy x (up_to_more K.arity K.bound n 5000000 x l w)
 
-  steps-small : (i : ℕ) → i ≤ s.days → {V : Type 0} (columns : V → Of K) (stop : Stop) →
+  steps_small : (i : ℕ) → i ≤ s.days → {V : Type 0} (columns : V → Of K) (stop : Stop) →
       Steps K columns (summed K i (step K s)) (trace K (standing_trace K s) i) (trace K (standing_trace K s) (i + 1)) (Err stop) → ⊥
-  steps-small i l columns (Refused r) e = e
-  steps-small i l columns Unreachable e =
-      let D : Within K 4000 (minus K.arity (trace K (standing_trace K s) (i + 1)) (trace K (standing_trace K s) i)) = up_to_minus K.arity K.bound 2000 2000 _ _ (trace-small (i + 1)) (trace-small i) in
-      let Z = size-up-to K O 4000 _ D in
-      let W = summed-up-to K O 4000 i (step K s) (λ d. size-up-to K O 4000 _ (up_to_minus K.arity K.bound 2000 2000 _ _ (trace-small d) (trace-small (d - 1)))) in
-      let n = shown-days K h s S O in
+  steps_small i l columns (Refused r) e = e
+  steps_small i l columns Unreachable e =
+      let D : Within K 4000 (minus K.arity (trace K (standing_trace K s) (i + 1)) (trace K (standing_trace K s) i)) = up_to_minus K.arity K.bound 2000 2000 _ _ (trace_small (i + 1)) (trace_small i) in
+      let Z = size_up_to K O 4000 _ D in
+      let W = summed_up_to K O 4000 i (step K s) (λ d. size_up_to K O 4000 _ (up_to_minus K.arity K.bound 2000 2000 _ _ (trace_small d) (trace_small (d - 1)))) in
+      let n = shown_days K h s S O in
       elim e [
-        | inl f ↦ both_ways _ f (has-small 4000 _ (omega arith) D)
-        | inr (inl f) ↦ both_ways _ f (has-small 4000 _ (omega arith) Z)
-        | inr (inr f) ↦ both_ways _ f (has-small (i * 4000 + 4000) _ (omega arith) (up_to_plus K.arity K.bound (i * 4000) 4000 _ _ W Z))
+        | inl f ↦ both_ways _ f (has_small 4000 _ (omega arith) D)
+        | inr (inl f) ↦ both_ways _ f (has_small 4000 _ (omega arith) Z)
+        | inr (inr f) ↦ both_ways _ f (has_small (i * 4000 + 4000) _ (omega arith) (up_to_plus K.arity K.bound (i * 4000) 4000 _ _ W Z))
       ]
 
 -- a step that has no sum, in a sheet that no list of calls leads to
 pub steps_unled : {V : Type 0} (K : Kind) (O : Lawful K) (columns : V → Of K) (s : State) (i : ℕ) (x from to : Of K) (y : Of K) (stop : Stop) → i ≤ s.days → x ≡ summed K i (step K s) →
     from ≡ trace K (standing_trace K s) i → to ≡ trace K (standing_trace K s) (i + 1) → Steps K columns x from to (Err stop) → ComesOut K columns s y (Err stop)
 steps_unled K O columns s i x from to y (Refused r) l a b c e = e
-steps_unled K O columns s i x from to y Unreachable l a b c e = λ h S. steps-small K O h s S i l columns Unreachable (rw (a, b, c) at e)
+steps_unled K O columns s i x from to y Unreachable l a b c e = λ h S. steps_small K O h s S i l columns Unreachable (rw (a, b, c) at e)
 
 -- a pulse by its number
 some_same : {A : Type 0} {a b : A} → Some a ≡ Some b → a ≡ b
 some_same e = cc
 
 module _ (K : Kind) (O : Lawful K) (s : State) (n : ℕ) (l : 1 ≤ n) (g : n ≤ s.count) where
-  pub no-stretch : (first width mark : ℕ) (cols : List ℤ) → mark ≤ 1 → get_or s.slots (n - 1) None ≡ slot_of first width mark cols → (stretches.Within first width → ⊥) → Unled K s
-  no-stretch first width mark cols m e f h S =
+  pub no_stretch : (first width mark : ℕ) (cols : List ℤ) → mark ≤ 1 → get_or s.slots (n - 1) None ≡ slot_of first width mark cols → (stretches.Within first width → ⊥) → Unled K s
+  no_stretch first width mark cols m e f h S =
       let d : Pulse K = record { first = 0; width = 0; amount = nought K.arity } in
       let i : n - 1 < length (pulses K S.totals) = omega (arith, S.count) in
-      let F = All-get_or (Fair K (length S.totals)) (pulses K S.totals) (n - 1) d i (shown-fair K h s S O) in
+      let F = All-get_or (Fair K (length S.totals)) (pulses K S.totals) (n - 1) d i (shown_fair K h s S O) in
       let (b, c) = slot_cases first width mark cols m in
       let q = some_same (sym (e ∙ c) ∙ S.rows (n - 1) d i) in
       let a : first ≡ (get_or (pulses K S.totals) (n - 1) d).first = ap (λ r. r.first) q in
       let w : width ≡ (get_or (pulses K S.totals) (n - 1) d).width = ap (λ r. r.width) q in
-      let t = shown-days K h s S O in
+      let t = shown_days K h s S O in
       let u = S.days in
       f (record { begins = omega (arith, F.starts); wide = omega (arith, F.wide); ends = omega (arith, F.ends) })
 
-  pub listed-stop : {V : Type 0} (columns : V → Of K) (stop : Stop) → RowHeld K columns s.slots (n - 1) (Err stop) → Listed K columns s n (Err stop)
-  listed-stop columns (Refused r) e = absurd e
-  listed-stop columns Unreachable e = λ h S. shows_full K h s S (n - 1) (omega arith) e
+  pub listed_stop : {V : Type 0} (columns : V → Of K) (stop : Stop) → RowHeld K columns s.slots (n - 1) (Err stop) → Listed K columns s n (Err stop)
+  listed_stop columns (Refused r) e = absurd e
+  listed_stop columns Unreachable e = λ h S. shows_full K h s S (n - 1) (omega arith) e
 
 -- the steps together
 pub step_more : (K : Kind) (s : State) (i : ℕ) (x from to v : Of K) → x ≡ summed K i (step K s) → from ≡ trace K (standing_trace K s) i → to ≡ trace K (standing_trace K s) (i + 1) →
@@ -169,4 +169,4 @@ swing_comes K O columns s x from to (Err stop) a b c e =
 pub swing_stops : {V : Type 0} (K : Kind) (O : Lawful K) (columns : V → Of K) (s : State) (i : ℕ) (x from to : Of K) (stop : Stop) → i ≤ s.days → x ≡ summed K i (step K s) →
     from ≡ trace K (standing_trace K s) i → to ≡ trace K (standing_trace K s) (i + 1) → Steps K columns x from to (Err stop) → SwingsSoFar K columns s (Err stop)
 swing_stops K O columns s i x from to (Refused r) l a b c e = e
-swing_stops K O columns s i x from to Unreachable l a b c e = λ h S. steps-small K O h s S i l columns Unreachable (rw (a, b, c) at e)
+swing_stops K O columns s i x from to Unreachable l a b c e = λ h S. steps_small K O h s S i l columns Unreachable (rw (a, b, c) at e)

@@ -5,7 +5,7 @@ use Rattle.std.specs.List.{AllByRecursion as All}
 use Rattle.kinds.specs.Kinds.{Kind, Of, Lawful}
 use Rattle.transform.specs.Windows.{Record, trace}
 use Rattle.transform.specs.Pulses.{Pulse, pulses}
-use Rattle.transform.proofs.Endings.{pulses-among, pulses-within}
+use Rattle.transform.proofs.Endings.{pulses_among, pulses_within}
 use Rattle.transform.proofs.Ranges.{UpTo, up_to_minus}
 
 -- within so many times the bound
@@ -27,5 +27,5 @@ pulses_fair K O xs h =
     all_both _ _ _
     (λ p (f, w, e) (a, b, i, j, m). record { starts = f; wide = w; ends = e; amount = rw m (up_to_minus K.arity K.bound 1 1 a b i j) })
     (pulses K xs)
-    (pulses-within K O xs)
-    (pulses-among K O (Within K 1) xs h)
+    (pulses_within K O xs)
+    (pulses_among K O (Within K 1) xs h)

@@ -9,13 +9,13 @@ use Rattle.kinds.specs.Kinds.{Kind, Lawful}
 use Rattle.refusals.specs.declared.refusal.Refusal.{Refusal}
 use Rattle.refusals.specs.declared.refusal.Refusal.TheVariants.{NoSuchPulse, ShelfTooSmall}
 use Rattle.shelves.specs.declared.row.Mark.{Mark}
-use Rattle.shelves.specs.declared.row.Mark.TheVariants.{In, Out as Taken-out}
+use Rattle.shelves.specs.declared.row.Mark.TheVariants.{In, Out as TakenOut}
 use Rattle.shelves.specs.Slots.{Entry, Outside, is_out}
 use Rattle.transform.specs.Windows.{Record}
 use Rattle.transform.specs.Pulses.{Pulse, pulses, in_turn}
 use Rattle.transform.specs.Theory.{EachLater}
-use Rattle.transform.proofs.Choosing.{pulses-apart}
-use Rattle.transform.proofs.Counts.{pulses-few}
+use Rattle.transform.proofs.Choosing.{pulses_apart}
+use Rattle.transform.proofs.Counts.{pulses_few}
 use Rattle.sheets.specs.declared.sheet.Stop.{Stop}
 use Rattle.sheets.specs.declared.sheet.Stop.TheVariants.{Refused, Unreachable}
 use Rattle.splitting.specs.Records.{Accepted, row_of, laid}
@@ -41,18 +41,18 @@ taking_same e = cc
 
 module _ (K : Kind) (capacity : ℕ) where
   -- a call that is no accepted take leaves the record held
-  pub held-still : (c : Call K) (h : Calls K) (xs : Record K) → (Takes K capacity c → ⊥) → Held K capacity h xs → Held K capacity (c ∷ h) xs
-  held-still c h xs f (inl l) =
+  pub held_still : (c : Call K) (h : Calls K) (xs : Record K) → (Takes K capacity c → ⊥) → Held K capacity h xs → Held K capacity (c ∷ h) xs
+  held_still c h xs f (inl l) =
       inl (record { later = c ∷ l.later; entries = l.entries; earlier = l.earlier; split = ap (λ t. c ∷ t) l.split; accepted = l.accepted; since = (f, l.since) })
-  held-still c h xs f (inr (e, l)) = inr (e, (f, l))
+  held_still c h xs f (inr (e, l)) = inr (e, (f, l))
 
-  pub held-now : (h : Calls K) (xs : Record K) (entries : ℕ) → Accepted K xs entries capacity → Held K capacity (taking xs entries ∷ h) xs
-  held-now h xs entries a = inl (record { later = []; entries = entries; earlier = h; split = refl; accepted = a; since = tt })
+  pub held_now : (h : Calls K) (xs : Record K) (entries : ℕ) → Accepted K xs entries capacity → Held K capacity (taking xs entries ∷ h) xs
+  held_now h xs entries a = inl (record { later = []; entries = entries; earlier = h; split = refl; accepted = a; since = tt })
 
   -- the newest call set the record, or it did not and the calls before tell which it is
-  held-cases : (c : Call K) (h : Calls K) (xs : Record K) → Held K capacity (c ∷ h) xs → ((entries : ℕ) × (c ≡ taking xs entries) × Accepted K xs entries capacity) ⊎ ((Takes K capacity c → ⊥) × Held K capacity h xs)
-  held-cases c h xs (inr (e, (f, l))) = inr (f, inr (e, l))
-  held-cases c h xs (inl t) = go t.later t.split t.since
+  held_cases : (c : Call K) (h : Calls K) (xs : Record K) → Held K capacity (c ∷ h) xs → ((entries : ℕ) × (c ≡ taking xs entries) × Accepted K xs entries capacity) ⊎ ((Takes K capacity c → ⊥) × Held K capacity h xs)
+  held_cases c h xs (inr (e, (f, l))) = inr (f, inr (e, l))
+  held_cases c h xs (inl t) = go t.later t.split t.since
     where
       go : (later : Calls K) → c ∷ h ≡ later ++ (taking xs t.entries ∷ t.earlier) → All (λ c. Takes K capacity c → ⊥) later → ((entries : ℕ) × (c ≡ taking xs entries) × Accepted K xs entries capacity) ⊎ ((Takes K capacity c → ⊥) × Held K capacity h xs)
       go [] e s = inl (t.entries, cons_head e, t.accepted)
@@ -66,12 +66,12 @@ module _ (K : Kind) (capacity : ℕ) where
   held_one [] xs ys (inr (e, l)) (inr (f, m)) = e ∙ sym f
   held_one [] xs ys (inl t) H = absurd (nil_split _ t.earlier t.later t.split)
   held_one [] xs ys (inr (e, l)) (inl t) = absurd (nil_split _ t.earlier t.later t.split)
-  held_one (c ∷ h) xs ys H G = elim (held-cases c h xs H) [
-    | inl (m, e, a) ↦ elim (held-cases c h ys G) [
+  held_one (c ∷ h) xs ys H G = elim (held_cases c h xs H) [
+    | inl (m, e, a) ↦ elim (held_cases c h ys G) [
       | inl (n, f, b) ↦ taking_same (sym e ∙ f)
       | inr (f, g) ↦ absurd (f (subst (Takes K capacity) (sym e) a))
     ]
-    | inr (e, a) ↦ elim (held-cases c h ys G) [
+    | inr (e, a) ↦ elim (held_cases c h ys G) [
       | inl (n, f, b) ↦ absurd (e (subst (Takes K capacity) (sym f) b))
       | inr (f, g) ↦ held_one h xs ys a g
     ]
@@ -82,11 +82,11 @@ module _ (K : Kind) (capacity : ℕ) where
     abbrev pub Puts : Call K → Type 0
     Puts c = Removes c × Allowed K capacity (length (pulses K xs)) c × Names K xs c p
 
-    pub out-now : (c : Call K) (h : Calls K) → Puts c → Out K capacity xs (c ∷ h) p
-    out-now c h (r, a, n) = record { later = []; call = c; earlier = h; split = refl; removal = r; accepted = a; names = n; since = tt }
+    pub out_now : (c : Call K) (h : Calls K) → Puts c → Out K capacity xs (c ∷ h) p
+    out_now c h (r, a, n) = record { later = []; call = c; earlier = h; split = refl; removal = r; accepted = a; names = n; since = tt }
 
-    pub out-still : (c : Call K) (h : Calls K) → (Concerns K capacity xs c p → ⊥) → Out K capacity xs h p → Out K capacity xs (c ∷ h) p
-    out-still c h f o = record {
+    pub out_still : (c : Call K) (h : Calls K) → (Concerns K capacity xs c p → ⊥) → Out K capacity xs h p → Out K capacity xs (c ∷ h) p
+    out_still c h f o = record {
       later = c ∷ o.later;
       call = o.call;
       earlier = o.earlier;
@@ -130,8 +130,8 @@ module _ (K : Kind) (O : Lawful K) (xs : Record K) where
       let w = eqb-true _ _ (and_parts _ _ e).1 in
       elim (cases_order i j) [
         | inl s ↦ s
-        | inr (inl s) ↦ absurd (later_at _ (pulses K xs) i j d (pulses-apart K O xs) s l f w)
-        | inr (inr s) ↦ absurd (later_at _ (pulses K xs) j i d (pulses-apart K O xs) s h (sym f) (sym w))
+        | inr (inl s) ↦ absurd (later_at _ (pulses K xs) i j d (pulses_apart K O xs) s l f w)
+        | inr (inr s) ↦ absurd (later_at _ (pulses K xs) j i d (pulses_apart K O xs) s h (sym f) (sym w))
       ]
 
   -- a test that tells which pulses a call names, as the calls tell it of rows
@@ -140,8 +140,8 @@ module _ (K : Kind) (O : Lawful K) (xs : Record K) where
     pub decides : (p : Pulse K) → Has (pulses K xs) p → Decides (test p) (Names K xs c p)
     pub agrees : (k : ℕ) (d : Pulse K) (b : Bool) → k < length (pulses K xs) → named c k (row (get_or (pulses K xs) k d) b) ≡ test (get_or (pulses K xs) k d)
 
-  tells-widths : (m : Mark) (low high : ℕ) → Tells (marking m low high)
-  tells-widths m low high = record {
+  tells_widths : (m : Mark) (low high : ℕ) → Tells (marking m low high)
+  tells_widths m low high = record {
     test = λ p. leb low p.width && leb p.width high;
     decides = λ p h. (λ e. (leb-true _ _ (and_parts _ _ e).0, leb-true _ _ (and_parts _ _ e).1), λ n. and_from _ _ (le-leb _ _ n.0) (le-leb _ _ n.1));
     agrees = λ k d b h. refl;
@@ -150,8 +150,8 @@ module _ (K : Kind) (O : Lawful K) (xs : Record K) where
   nothing : Pulse K
   nothing = record { first = 0; width = 0; amount = nought K.arity }
 
-  tells-number : (m : Mark) (n : ℕ) → 1 ≤ n → n ≤ length (pulses K xs) → Tells (marking_one m n)
-  tells-number m n s l = record {
+  tells_number : (m : Mark) (n : ℕ) → 1 ≤ n → n ≤ length (pulses K xs) → Tells (marking_one m n)
+  tells_number m n s l = record {
     test = λ p. same_days p (get_or (pulses K xs) (n - 1) nothing);
     decides = λ p (k, h, at). (
       λ e.
@@ -179,22 +179,22 @@ Told K capacity xs h out = (p : Pulse K) → Has (pulses K xs) p → Decides (ou
 
 module _ (K : Kind) (capacity : ℕ) (xs : Record K) (c : Call K) (h : Calls K) (out : Pulse K → Bool) (T : Told K capacity xs h out) where
   -- a call that concerns no pulse
-  told-still : ((p : Pulse K) → Concerns K capacity xs c p → ⊥) → Told K capacity xs (c ∷ h) out
-  told-still f p i = (
-    λ e. out-still K capacity xs p c h (f p) ((T p i).0 e),
+  told_still : ((p : Pulse K) → Concerns K capacity xs c p → ⊥) → Told K capacity xs (c ∷ h) out
+  told_still f p i = (
+    λ e. out_still K capacity xs p c h (f p) ((T p i).0 e),
     λ o. elim (out_cases K capacity xs p c h o) [ inl (r, a, n) ↦ absurd (f p (inr (a, n))) | inr (g, o') ↦ (T p i).1 o' ],
   )
 
   -- a call that marks the pulses of a test
-  told-marked : (Takes K capacity c → ⊥) → Allowed K capacity (length (pulses K xs)) c → (test : Pulse K → Bool) → ((p : Pulse K) → Has (pulses K xs) p → Decides (test p) (Names K xs c p)) →
+  told_marked : (Takes K capacity c → ⊥) → Allowed K capacity (length (pulses K xs)) c → (test : Pulse K → Bool) → ((p : Pulse K) → Has (pulses K xs) p → Decides (test p) (Names K xs c p)) →
       (outward c ≡ true → Removes c) → (Removes c → outward c ≡ true) → Told K capacity xs (c ∷ h) (λ p. cond (test p) (outward c) (out p))
-  told-marked t a test D f g p i = elim (cases_Bool (test p)) [
+  told_marked t a test D f g p i = elim (cases_Bool (test p)) [
     | inl e ↦ rw e (
-      λ w. out-now K capacity xs p c h (f w, a, (D p i).0 e),
+      λ w. out_now K capacity xs p c h (f w, a, (D p i).0 e),
       λ o. elim (out_cases K capacity xs p c h o) [ inl (r, b, n) ↦ g r | inr (q, o') ↦ absurd (q (inr (a, (D p i).0 e))) ],
     )
     | inr e ↦ rw e (
-      λ w. out-still K capacity xs p c h (λ u. elim u [ inl s ↦ t s | inr (b, n) ↦ both_ways _ e ((D p i).1 n) ]) ((T p i).0 w),
+      λ w. out_still K capacity xs p c h (λ u. elim u [ inl s ↦ t s | inr (b, n) ↦ both_ways _ e ((D p i).1 n) ]) ((T p i).0 w),
       λ o. elim (out_cases K capacity xs p c h o) [ inl (r, b, n) ↦ absurd (both_ways _ e ((D p i).1 n)) | inr (q, o') ↦ (T p i).1 o' ],
     )
   ]
@@ -208,9 +208,9 @@ refused_takes K capacity count (marking_one m n) r g a = a
 pub refused_shows : (K : Kind) (c : Call K) (h : Calls K) (s : State) (r : Refusal) → Grounds K (length s.slots) s.count c r → Shows K h s → Shows K (c ∷ h) s
 refused_shows K c h s r g S = record {
   totals = S.totals;
-  held = held-still K (length s.slots) c h S.totals (refused_takes K _ _ c r g) S.held;
+  held = held_still K (length s.slots) c h S.totals (refused_takes K _ _ c r g) S.held;
   out = S.out;
-  told = told-still K (length s.slots) S.totals c h S.out S.told (λ p u. elim u [
+  told = told_still K (length s.slots) S.totals c h S.out S.told (λ p u. elim u [
     | inl t ↦ refused_takes K _ _ c r g t
     | inr (a, n) ↦ a r (subst (λ i. Grounds K (length s.slots) i c r) S.count g)
   ]);
@@ -229,14 +229,14 @@ marked_row K c k p b true e = rw e refl
 marked_row K c k p b false e = rw e refl
 
 module _ (K : Kind) (O : Lawful K) (c : Call K) (h : Calls K) (s t : State) (S : Shows K h s) (T : Tells K O S.totals c) where
-  marked-shows : (Takes K (length s.slots) c → ⊥) → (outward c ≡ true → Removes c) → (Removes c → outward c ≡ true) → Allowed K (length s.slots) s.count c → Stays s t →
+  marked_shows : (Takes K (length s.slots) c → ⊥) → (outward c ≡ true → Removes c) → (Removes c → outward c ≡ true) → Allowed K (length s.slots) s.count c → Stays s t →
       Marked c s.count s.slots t.slots → Shows K (c ∷ h) t
-  marked-shows n f g a y m = record {
+  marked_shows n f g a y m = record {
     totals = S.totals;
-    held = subst (λ n. Held K n (c ∷ h) S.totals) (sym m.capacity) (held-still K (length s.slots) c h S.totals n S.held);
+    held = subst (λ n. Held K n (c ∷ h) S.totals) (sym m.capacity) (held_still K (length s.slots) c h S.totals n S.held);
     out = λ p. cond (T.test p) (outward c) (S.out p);
     told =
-        subst (λ n. Told K n S.totals (c ∷ h) (λ p. cond (T.test p) (outward c) (S.out p))) (sym m.capacity) (told-marked K (length s.slots) S.totals c h S.out S.told n (subst (λ i. Allowed K (length s.slots) i c) S.count a) T.test T.decides f g);
+        subst (λ n. Told K n S.totals (c ∷ h) (λ p. cond (T.test p) (outward c) (S.out p))) (sym m.capacity) (told_marked K (length s.slots) S.totals c h S.out S.told n (subst (λ i. Allowed K (length s.slots) i c) S.count a) T.test T.decides f g);
     days = y.days ∙ S.days;
     count = y.count ∙ S.count;
     rows = λ k d l.
@@ -249,43 +249,43 @@ pub shows_full : (K : Kind) (h : Calls K) (s : State) → Shows K h s → (k : �
 shows_full K h s S k l = some_not_none _ _ (S.rows k (record { first = 0; width = 0; amount = nought K.arity }) (omega (arith, S.count)))
 
 module _ (K : Kind) (O : Lawful K) where
-  number-within : (capacity count n : ℕ) (m : Mark) → Allowed K capacity count (marking_one m n) → (1 ≤ n) × (n ≤ count)
-  number-within capacity count n m a = (
+  number_within : (capacity count n : ℕ) (m : Mark) → Allowed K capacity count (marking_one m n) → (1 ≤ n) × (n ≤ count)
+  number_within capacity count n m a = (
     elim (cases_eq n 0) [ inl e ↦ absurd (a NoSuchPulse (refl, inl e)) | inr e ↦ omega arith ],
     elim (cases_lt count n) [ inl l ↦ absurd (a NoSuchPulse (refl, inr l)) | inr l ↦ l ],
   )
 
-  out-mark : (m : Mark) → is_out m ≡ true → m ≡ Taken-out
-  out-mark In e = absurd (both_ways _ refl e)
-  out-mark Taken-out e = refl
+  out_mark : (m : Mark) → is_out m ≡ true → m ≡ TakenOut
+  out_mark In e = absurd (both_ways _ refl e)
+  out_mark TakenOut e = refl
 
-  pub range-shows : {A : Type 0} (m : Mark) (low high : ℕ) (s t : State) (u v : A) (r : Result ℕ Stop) → (v ≡ u → t ≡ s) → Marking K (marking m low high) s t u v r → ShowsOn K (marking m low high) s t r
-  range-shows m low high s t u v (Ok n) w (a, y, d, e) h S =
-      (marked-shows K O (marking m low high) h s t S (tells-widths K O S.totals m low high) (λ z. z) (out-mark m) (λ z. ap is_out z) a y d, λ z. z)
-  range-shows m low high s t u v (Err (Refused r)) w (g, e) h S = (subst (λ x. Shows K (marking m low high ∷ h) x) (sym (w e)) (refused_shows K (marking m low high) h s r g S), λ z. z)
-  range-shows m low high s t u v (Err Unreachable) w (a, y, b) h S = absurd (shows_full K h s S b.slot b.below b.blank)
+  pub range_shows : {A : Type 0} (m : Mark) (low high : ℕ) (s t : State) (u v : A) (r : Result ℕ Stop) → (v ≡ u → t ≡ s) → Marking K (marking m low high) s t u v r → ShowsOn K (marking m low high) s t r
+  range_shows m low high s t u v (Ok n) w (a, y, d, e) h S =
+      (marked_shows K O (marking m low high) h s t S (tells_widths K O S.totals m low high) (λ z. z) (out_mark m) (λ z. ap is_out z) a y d, λ z. z)
+  range_shows m low high s t u v (Err (Refused r)) w (g, e) h S = (subst (λ x. Shows K (marking m low high ∷ h) x) (sym (w e)) (refused_shows K (marking m low high) h s r g S), λ z. z)
+  range_shows m low high s t u v (Err Unreachable) w (a, y, b) h S = absurd (shows_full K h s S b.slot b.below b.blank)
 
-  pub one-shows : {A : Type 0} (m : Mark) (n : ℕ) (s t : State) (u v : A) (r : Result ℕ Stop) → (v ≡ u → t ≡ s) → Marking K (marking_one m n) s t u v r → ShowsOn K (marking_one m n) s t r
-  one-shows m n s t u v (Ok x) w (a, y, d, e) h S =
-      let i = number-within (length s.slots) s.count n m a in
-      (marked-shows K O (marking_one m n) h s t S (tells-number K O S.totals m n i.0 (omega (arith, S.count, i.1))) (λ z. z) (out-mark m) (λ z. ap is_out z) a y d, λ z. z)
-  one-shows m n s t u v (Err (Refused r)) w (g, e) h S = (subst (λ x. Shows K (marking_one m n ∷ h) x) (sym (w e)) (refused_shows K (marking_one m n) h s r g S), λ z. z)
-  one-shows m n s t u v (Err Unreachable) w (a, y, b) h S = absurd (shows_full K h s S b.slot b.below b.blank)
+  pub one_shows : {A : Type 0} (m : Mark) (n : ℕ) (s t : State) (u v : A) (r : Result ℕ Stop) → (v ≡ u → t ≡ s) → Marking K (marking_one m n) s t u v r → ShowsOn K (marking_one m n) s t r
+  one_shows m n s t u v (Ok x) w (a, y, d, e) h S =
+      let i = number_within (length s.slots) s.count n m a in
+      (marked_shows K O (marking_one m n) h s t S (tells_number K O S.totals m n i.0 (omega (arith, S.count, i.1))) (λ z. z) (out_mark m) (λ z. ap is_out z) a y d, λ z. z)
+  one_shows m n s t u v (Err (Refused r)) w (g, e) h S = (subst (λ x. Shows K (marking_one m n ∷ h) x) (sym (w e)) (refused_shows K (marking_one m n) h s r g S), λ z. z)
+  one_shows m n s t u v (Err Unreachable) w (a, y, b) h S = absurd (shows_full K h s S b.slot b.below b.blank)
 
 -- a take
 module _ (K : Kind) (O : Lawful K) (xs : Record K) (entries : ℕ) where
-  laid-length : (slots : List (Option Entry)) → Accepted K xs entries (length slots) → length (laid (pulses K xs) slots) ≡ length slots
-  laid-length slots a =
-      let f = pulses-few K O xs in
+  laid_length : (slots : List (Option Entry)) → Accepted K xs entries (length slots) → length (laid (pulses K xs) slots) ≡ length slots
+  laid_length slots a =
+      let f = pulses_few K O xs in
       let c : length xs ≤ length slots = elim (cases_lt (length slots) (length xs)) [ inl l ↦ absurd (a ShelfTooSmall l) | inr l ↦ l ] in
       length-append (map row_of (pulses K xs)) (drop (length (pulses K xs)) slots) ∙ rw (length-map, length-drop) (omega arith)
 
-  taken-shows : (h : Calls K) (s t : State) → Accepted K xs entries (length s.slots) → Taken K xs s t → Shows K (taking xs entries ∷ h) t
-  taken-shows h s t a T =
-      let e : length t.slots ≡ length s.slots = ap length T.slots ∙ laid-length s.slots a in
+  taken_shows : (h : Calls K) (s t : State) → Accepted K xs entries (length s.slots) → Taken K xs s t → Shows K (taking xs entries ∷ h) t
+  taken_shows h s t a T =
+      let e : length t.slots ≡ length s.slots = ap length T.slots ∙ laid_length s.slots a in
       record {
         totals = xs;
-        held = subst (λ n. Held K n (taking xs entries ∷ h) xs) (sym e) (held-now K (length s.slots) h xs entries a);
+        held = subst (λ n. Held K n (taking xs entries ∷ h) xs) (sym e) (held_now K (length s.slots) h xs entries a);
         out = λ p. false;
         told = subst (λ n. Told K n xs (taking xs entries ∷ h) (λ p. false)) (sym e) (λ p i. (
           λ e. absurd (both_ways _ refl e),
@@ -297,10 +297,10 @@ module _ (K : Kind) (O : Lawful K) (xs : Record K) (entries : ℕ) where
             ap (λ z. get_or z k None) T.slots ∙ get_or_append_left (map row_of (pulses K xs)) (drop (length (pulses K xs)) s.slots) None k (rw length-map l) ∙ get_or-map row_of (pulses K xs) k d None l;
       }
 
-  pub take-shows : {A W : Type 0} (s t : State) (u v : A) (w x : W) (r : Result ℕ Stop) → (v ≡ u → t ≡ s) → Take K xs entries s t u v w x r → ShowsOn K (taking xs entries) s t r
-  take-shows s t u v w x (Ok n) y (a, e, f) h S = (taken-shows h s t a f, λ z. z)
-  take-shows s t u v w x (Err (Refused r)) y (l, e, f) h S = (subst (λ z. Shows K (taking xs entries ∷ h) z) (sym (y e)) (refused_shows K (taking xs entries) h s r l.ground S), λ z. z)
-  take-shows s t u v w x (Err Unreachable) y e h S = absurd e
+  pub take_shows : {A W : Type 0} (s t : State) (u v : A) (w x : W) (r : Result ℕ Stop) → (v ≡ u → t ≡ s) → Take K xs entries s t u v w x r → ShowsOn K (taking xs entries) s t r
+  take_shows s t u v w x (Ok n) y (a, e, f) h S = (taken_shows h s t a f, λ z. z)
+  take_shows s t u v w x (Err (Refused r)) y (l, e, f) h S = (subst (λ z. Shows K (taking xs entries ∷ h) z) (sym (y e)) (refused_shows K (taking xs entries) h s r l.ground S), λ z. z)
+  take_shows s t u v w x (Err Unreachable) y e h S = absurd e
 
 -- a new sheet
 pub new_shows : (K : Kind) (slots : List (Option Entry)) (outside : Outside) → Shows K [] (opened slots outside)

@@ -10,13 +10,13 @@ use Rattle.kinds.specs.Columns.{nought, plus}
 use Rattle.kinds.specs.Kinds.{Kind, Of, Lawful}
 use Rattle.transform.specs.Windows.{Record, Trace, trace, days, smooth}
 use Rattle.transform.specs.Pulses.{Pulse, pulses, chosen, covers, standing, sizes, swing}
-use Rattle.transform.proofs.Smooths.{Outside, trace_outside, trace_days, length-smooth}
+use Rattle.transform.proofs.Smooths.{Outside, trace_outside, trace_days, length_smooth}
 use Rattle.transform.proofs.Group.{plus_assoc, plus_comm, plus_left_comm, plus_nought, nought_plus}
 use Rattle.transform.proofs.Sums.{standing_none}
-use Rattle.transform.proofs.Stages.{pulses-sum, wider-sum}
+use Rattle.transform.proofs.Stages.{pulses_sum, wider_sum}
 use Rattle.transform.proofs.Listing.{covers_first, covers_last}
-use Rattle.transform.proofs.Choosing.{pulses-differ}
-use Rattle.transform.proofs.Swings.{pulses-swing}
+use Rattle.transform.proofs.Choosing.{pulses_differ}
+use Rattle.transform.proofs.Swings.{pulses_swing}
 use Rattle.sheets.specs.declared.sheet.Stop.{Stop}
 use Rattle.sheets.specs.Takes.{State}
 use Rattle.sheets.specs.Calls.{Call}
@@ -25,7 +25,7 @@ use Rattle.sheets.specs.Standing.{left, standing_total, standing_trace, standing
 use Rattle.sheets.specs.Promise.{OutExactly, Promise, Continues}
 use Rattle.sheets.proofs.Bounds.{Fair}
 use Rattle.sheets.proofs.History.{held_one, ShowsOn}
-use Rattle.sheets.proofs.Shown.{left_is, shown-fair, all_chosen}
+use Rattle.sheets.proofs.Shown.{left_is, shown_fair, all_chosen}
 
 -- choices that agree on the list are the same
 chosen_same : {A : Type 0} (test other : A → Bool) (xs : List A) → All (λ x. test x ≡ other x) xs → chosen test xs ≡ chosen other xs
@@ -79,70 +79,70 @@ module _ (K : Kind) (O : Lawful K) (h : Calls K) (s : State) (S : Shows K h s) w
   kept : (d : ℕ) → standing_total K s d ≡ standing K (chosen (λ p. not (S.out p)) (pulses K S.totals)) d
   kept d = ap (λ ps. standing K ps d) (left_is K h s S)
 
-  trace-is : trace K (standing_trace K s) ≡ standing_total K s
-  trace-is = trace_days K s.days (standing_total K s) (
-    kept 0 ∙ standing_outside K (length S.totals) _ 0 (all_chosen _ _ _ (shown-fair K h s S O)) (inl refl),
-    λ d l. kept d ∙ standing_outside K (length S.totals) _ d (all_chosen _ _ _ (shown-fair K h s S O)) (inr (omega (arith, S.days))),
+  trace_is : trace K (standing_trace K s) ≡ standing_total K s
+  trace_is = trace_days K s.days (standing_total K s) (
+    kept 0 ∙ standing_outside K (length S.totals) _ 0 (all_chosen _ _ _ (shown_fair K h s S O)) (inl refl),
+    λ d l. kept d ∙ standing_outside K (length S.totals) _ d (all_chosen _ _ _ (shown_fair K h s S O)) (inr (omega (arith, S.days))),
   )
 
   -- the standing trace, day by day
-  pub trace-same : (ys : Record K) → length ys ≡ s.days → ((d : ℕ) → standing_total K s d ≡ trace K ys d) → standing_trace K s ≡ ys
-  trace-same ys l e = same_record K (standing_trace K s) ys (length_days K s.days _ ∙ sym l) (λ d. ap (λ t. t d) trace-is ∙ e d)
+  pub trace_same : (ys : Record K) → length ys ≡ s.days → ((d : ℕ) → standing_total K s d ≡ trace K ys d) → standing_trace K s ≡ ys
+  trace_same ys l e = same_record K (standing_trace K s) ys (length_days K s.days _ ∙ sym l) (λ d. ap (λ t. t d) trace_is ∙ e d)
 
-  pub same-trace : (ys : Record K) → standing_trace K s ≡ ys → (d : ℕ) → standing_total K s d ≡ trace K ys d
-  same-trace ys e d = ap (λ t. t d) (sym trace-is) ∙ ap (λ z. trace K z d) e
+  pub same_trace : (ys : Record K) → standing_trace K s ≡ ys → (d : ℕ) → standing_total K s d ≡ trace K ys d
+  same_trace ys e d = ap (λ t. t d) (sym trace_is) ∙ ap (λ z. trace K z d) e
 
-  smooth-days : (w : ℕ) → length (smooth K w S.totals) ≡ s.days
-  smooth-days w = length-smooth K O w S.totals ∙ sym S.days
+  smooth_days : (w : ℕ) → length (smooth K w S.totals) ≡ s.days
+  smooth_days w = length_smooth K O w S.totals ∙ sym S.days
 
-  promised-smooths : (w : ℕ) → (standing_trace K s ≡ smooth K w S.totals) ↔ OutExactly K (length s.slots) S.totals h (λ p. p.width ≤ w)
-  promised-smooths w = (
+  promised_smooths : (w : ℕ) → (standing_trace K s ≡ smooth K w S.totals) ↔ OutExactly K (length s.slots) S.totals h (λ p. p.width ≤ w)
+  promised_smooths w = (
     λ e p i.
-        let q : not (S.out p) ≡ ltb w p.width = pulses-differ K O S.totals (λ p. not (S.out p)) (λ p. ltb w p.width) (λ d. sym (kept d) ∙ same-trace (smooth K w S.totals) e d ∙ sym (wider-sum K O S.totals w d)) p i in
+        let q : not (S.out p) ≡ ltb w p.width = pulses_differ K O S.totals (λ p. not (S.out p)) (λ p. ltb w p.width) (λ d. sym (kept d) ∙ same_trace (smooth K w S.totals) e d ∙ sym (wider_sum K O S.totals w d)) p i in
         (λ o. ltb-false w p.width (sym q ∙ ap not ((S.told p i).1 o)), λ l. (S.told p i).0 (not_same (S.out p) true (q ∙ le-ltb w p.width l))),
-    λ f. trace-same (smooth K w S.totals) (smooth-days w) (λ d.
+    λ f. trace_same (smooth K w S.totals) (smooth_days w) (λ d.
         kept d ∙ ap (λ ps. standing K ps d) (chosen_same (λ p. not (S.out p)) (λ p. ltb w p.width) (pulses K S.totals) (all_of_has _ (pulses K S.totals) (λ p i. elim (cases_Bool (S.out p)) [
           | inl o ↦ rw o (sym (le-ltb w p.width ((f p i).0 ((S.told p i).0 o))))
           | inr o ↦ elim (cases_lt w p.width) [ inl l ↦ rw o (sym (lt-ltb w p.width l)) | inr l ↦ absurd (both_ways _ o ((S.told p i).1 ((f p i).1 l))) ]
-        ]))) ∙ wider-sum K O S.totals w d),
+        ]))) ∙ wider_sum K O S.totals w d),
   )
 
-  promised-totals : (d : ℕ) → plus K.arity (standing_total K s d) (standing K (chosen S.out (pulses K S.totals)) d) ≡ trace K S.totals d
-  promised-totals d = rw (kept d) (standing_parted K S.out (pulses K S.totals) d ∙ pulses-sum K O S.totals d)
+  promised_totals : (d : ℕ) → plus K.arity (standing_total K s d) (standing K (chosen S.out (pulses K S.totals)) d) ≡ trace K S.totals d
+  promised_totals d = rw (kept d) (standing_parted K S.out (pulses K S.totals) d ∙ pulses_sum K O S.totals d)
 
-  promised-swings : swing K s.days (trace K S.totals) ≡ plus K.arity (standing_swing K s) (plus K.arity (sizes K (chosen S.out (pulses K S.totals))) (sizes K (chosen S.out (pulses K S.totals))))
-  promised-swings =
+  promised_swings : swing K s.days (trace K S.totals) ≡ plus K.arity (standing_swing K s) (plus K.arity (sizes K (chosen S.out (pulses K S.totals))) (sizes K (chosen S.out (pulses K S.totals))))
+  promised_swings =
       let out : chosen (λ p. not (not (S.out p))) (pulses K S.totals) ≡ chosen S.out (pulses K S.totals) = chosen_same _ _ (pulses K S.totals) (all_of_has _ (pulses K S.totals) (λ p i. not_not (S.out p))) in
-      let stands : trace K (standing_trace K s) ≡ standing K (chosen (λ p. not (S.out p)) (pulses K S.totals)) = trace-is ∙ fun_ext kept in
-      rw (stands, S.days, ← out) (pulses-swing K O S.totals (λ p. not (S.out p)))
+      let stands : trace K (standing_trace K s) ≡ standing K (chosen (λ p. not (S.out p)) (pulses K S.totals)) = trace_is ∙ fun_ext kept in
+      rw (stands, S.days, ← out) (pulses_swing K O S.totals (λ p. not (S.out p)))
 
 module _ (K : Kind) (O : Lawful K) (h : Calls K) (s : State) (S : Shows K h s) (g : Calls K) (t : State) (T : Shows K g t) (E : T.totals ≡ S.totals) where
-  other-told : (p : Pulse K) → Has (pulses K S.totals) p → Decides (T.out p) (Out K (length t.slots) S.totals g p)
-  other-told = subst (λ ys. (p : Pulse K) → Has (pulses K ys) p → Decides (T.out p) (Out K (length t.slots) ys g p)) E T.told
+  other_told : (p : Pulse K) → Has (pulses K S.totals) p → Decides (T.out p) (Out K (length t.slots) S.totals g p)
+  other_told = subst (λ ys. (p : Pulse K) → Has (pulses K ys) p → Decides (T.out p) (Out K (length t.slots) ys g p)) E T.told
 
-  other-kept : (d : ℕ) → standing_total K t d ≡ standing K (chosen (λ p. not (T.out p)) (pulses K S.totals)) d
-  other-kept d = kept K O g t T d ∙ ap (λ ys. standing K (chosen (λ p. not (T.out p)) (pulses K ys)) d) E
+  other_kept : (d : ℕ) → standing_total K t d ≡ standing K (chosen (λ p. not (T.out p)) (pulses K S.totals)) d
+  other_kept d = kept K O g t T d ∙ ap (λ ys. standing K (chosen (λ p. not (T.out p)) (pulses K ys)) d) E
 
-  promised-same : (standing_trace K s ≡ standing_trace K t) ↔ OutExactly K (length s.slots) S.totals h (Out K (length t.slots) S.totals g)
-  promised-same = (
+  promised_same : (standing_trace K s ≡ standing_trace K t) ↔ OutExactly K (length s.slots) S.totals h (Out K (length t.slots) S.totals g)
+  promised_same = (
     λ e p i.
-        let q : S.out p ≡ T.out p = not_same _ _ (pulses-differ K O S.totals (λ p. not (S.out p)) (λ p. not (T.out p)) (λ d. sym (kept K O h s S d) ∙ same-trace K O h s S (standing_trace K t) e d ∙ sym (same-trace K O g t T (standing_trace K t) refl d) ∙ other-kept d) p i) in
-        (λ o. (other-told p i).0 (sym q ∙ (S.told p i).1 o), λ o. (S.told p i).0 (q ∙ (other-told p i).1 o)),
-    λ f. trace-same K O h s S (standing_trace K t) (length_days K t.days _ ∙ T.days ∙ ap length E ∙ sym S.days) (λ d.
+        let q : S.out p ≡ T.out p = not_same _ _ (pulses_differ K O S.totals (λ p. not (S.out p)) (λ p. not (T.out p)) (λ d. sym (kept K O h s S d) ∙ same_trace K O h s S (standing_trace K t) e d ∙ sym (same_trace K O g t T (standing_trace K t) refl d) ∙ other_kept d) p i) in
+        (λ o. (other_told p i).0 (sym q ∙ (S.told p i).1 o), λ o. (S.told p i).0 (q ∙ (other_told p i).1 o)),
+    λ f. trace_same K O h s S (standing_trace K t) (length_days K t.days _ ∙ T.days ∙ ap length E ∙ sym S.days) (λ d.
         kept K O h s S d ∙ ap (λ ps. standing K ps d) (chosen_same (λ p. not (S.out p)) (λ p. not (T.out p)) (pulses K S.totals) (all_of_has _ (pulses K S.totals) (λ p i. ap not (elim (cases_Bool (S.out p)) [
-          | inl o ↦ o ∙ sym ((other-told p i).1 ((f p i).0 ((S.told p i).0 o)))
-          | inr o ↦ elim (cases_Bool (T.out p)) [ inl u ↦ absurd (both_ways _ o ((S.told p i).1 ((f p i).1 ((other-told p i).0 u)))) | inr u ↦ o ∙ sym u ]
-        ])))) ∙ sym (other-kept d) ∙ same-trace K O g t T (standing_trace K t) refl d),
+          | inl o ↦ o ∙ sym ((other_told p i).1 ((f p i).0 ((S.told p i).0 o)))
+          | inr o ↦ elim (cases_Bool (T.out p)) [ inl u ↦ absurd (both_ways _ o ((S.told p i).1 ((f p i).1 ((other_told p i).0 u)))) | inr u ↦ o ∙ sym u ]
+        ])))) ∙ sym (other_kept d) ∙ same_trace K O g t T (standing_trace K t) refl d),
   )
 
 pub promised : (K : Kind) (O : Lawful K) (h : Calls K) (s : State) → Shows K h s → Promise K h s
 promised K O h s S = record {
   shows = S;
   one_record = λ xs H. held_one K (length s.slots) h xs S.totals H S.held;
-  same_pulses_out = λ g t T E. promised-same K O h s S g t T E;
-  totals_balance = promised-totals K O h s S;
-  swings_balance = promised-swings K O h s S;
-  smooths = promised-smooths K O h s S;
+  same_pulses_out = λ g t T E. promised_same K O h s S g t T E;
+  totals_balance = promised_totals K O h s S;
+  swings_balance = promised_swings K O h s S;
+  smooths = promised_smooths K O h s S;
 }
 
 -- a call that shows the history with itself added keeps the promise

@@ -12,7 +12,7 @@ use Rattle.transform.specs.Windows.{Record, trace}
 use Rattle.transform.specs.Pulses.{Pulse, pulses, chosen, standing}
 use Rattle.transform.proofs.Smooths.{trace_outside}
 use Rattle.transform.proofs.Stages.{chosen_append}
-use Rattle.transform.proofs.Counts.{pulses-few}
+use Rattle.transform.proofs.Counts.{pulses_few}
 use Rattle.splitting.specs.Records.{Accepted, Barred}
 use Rattle.sheets.specs.Takes.{State}
 use Rattle.sheets.specs.History.{Calls, Held, row, Shows}
@@ -20,12 +20,12 @@ use Rattle.sheets.specs.Standing.{pulse_of, stands_in, stand_in, left}
 use Rattle.sheets.specs.Inside.{Lacks}
 use Rattle.sheets.proofs.Adding.{unlisted_listed}
 use Rattle.sheets.proofs.Bounds.{Within, Fair, pulses_fair}
-use Rattle.transform.proofs.Ranges.{up_to_bound, up_to_nought, up_to_more, standing-up-to}
+use Rattle.transform.proofs.Ranges.{up_to_bound, up_to_nought, up_to_more, standing_up_to}
 use Rattle.sheets.proofs.History.{shows_full}
 
 module _ (K : Kind) (xs : Record K) (entries capacity : ℕ) (a : Accepted K xs entries capacity) where
-  accepted-days : length xs ≤ 1000
-  accepted-days = elim (cases_lt 1000 (length xs)) [ inl h ↦ absurd (a TooManyDays h) | inr h ↦ h ]
+  accepted_days : length xs ≤ 1000
+  accepted_days = elim (cases_lt 1000 (length xs)) [ inl h ↦ absurd (a TooManyDays h) | inr h ↦ h ]
 
   entered : (n : ℕ) → n ≤ length xs → (d : ℕ) → 1 ≤ d → d ≤ n → within K.arity K.bound (trace K xs d) ≡ true
   entered zero h d g l = absurd (omega arith)
@@ -40,7 +40,7 @@ module _ (K : Kind) (xs : Record K) (entries capacity : ℕ) (a : Accepted K xs 
 -- the totals of the record held may all be entered, and there are at most 1,000
 pub held_within : (K : Kind) (capacity : ℕ) (h : Calls K) (xs : Record K) → Held K capacity h xs → (length xs ≤ 1000) × ((d : ℕ) → Within K 1 (trace K xs d))
 held_within K capacity h xs (inl l) = (
-  accepted-days K xs l.entries capacity l.accepted,
+  accepted_days K xs l.entries capacity l.accepted,
   λ d. elim (cases_lt (length xs) d) [
     | inl g ↦ rw ((trace_outside K xs).1 d g) (up_to_nought K.arity K.bound 1)
     | inr g ↦ elim (cases_eq d 0) [
@@ -70,45 +70,45 @@ all_chosen P test (x ∷ xs) (h, hs) = elim (cases_Bool (test x)) [ inl e ↦ rw
 
 module _ (K : Kind) (h : Calls K) (s : State) (S : Shows K h s) where
   -- what is marked in is what is not out
-  slot-left : (k : ℕ) (d : Pulse K) → k < length (pulses K S.totals) → stands_in K (get_or s.slots k None) ≡ chosen (λ p. not (S.out p)) (get_or (pulses K S.totals) k d ∷ [])
+  slot_left : (k : ℕ) (d : Pulse K) → k < length (pulses K S.totals) → stands_in K (get_or s.slots k None) ≡ chosen (λ p. not (S.out p)) (get_or (pulses K S.totals) k d ∷ [])
   unfolding chosen
-  slot-left k d l = rw (S.rows k d l) (elim (cases_Bool (S.out (get_or (pulses K S.totals) k d))) [
+  slot_left k d l = rw (S.rows k d l) (elim (cases_Bool (S.out (get_or (pulses K S.totals) k d))) [
     | inl e ↦ rw e refl
     | inr e ↦ rw e (ap (λ p. p ∷ []) (pulse_row K (get_or (pulses K S.totals) k d) false))
   ])
 
-  pub slots-left : (j : ℕ) → j ≤ length (pulses K S.totals) → stand_in K j s.slots ≡ chosen (λ p. not (S.out p)) (take j (pulses K S.totals))
+  pub slots_left : (j : ℕ) → j ≤ length (pulses K S.totals) → stand_in K j s.slots ≡ chosen (λ p. not (S.out p)) (take j (pulses K S.totals))
   unfolding stand_in chosen
-  slots-left zero l = refl
-  slots-left (suc j) l =
+  slots_left zero l = refl
+  slots_left (suc j) l =
       let d : Pulse K = record { first = 0; width = 0; amount = nought K.arity } in
       let t : take (suc j) (pulses K S.totals) ≡ take j (pulses K S.totals) ++ get_or (pulses K S.totals) j d ∷ [] = rw add-one at (take_more (pulses K S.totals) j d (omega arith)) in
-      rw (t, chosen_append (λ p. not (S.out p)) (take j (pulses K S.totals)) (get_or (pulses K S.totals) j d ∷ []), ← (slots-left j (omega arith)), ← (slot-left j d (omega arith))) refl
+      rw (t, chosen_append (λ p. not (S.out p)) (take j (pulses K S.totals)) (get_or (pulses K S.totals) j d ∷ []), ← (slots_left j (omega arith)), ← (slot_left j d (omega arith))) refl
 
   pub left_is : left K s ≡ chosen (λ p. not (S.out p)) (pulses K S.totals)
-  left_is = slots-left s.count (omega (arith, S.count)) ∙ ap (chosen (λ p. not (S.out p))) (take_all s.count (pulses K S.totals) (omega (arith, S.count)))
+  left_is = slots_left s.count (omega (arith, S.count)) ∙ ap (chosen (λ p. not (S.out p))) (take_all s.count (pulses K S.totals) (omega (arith, S.count)))
 
   module _ (O : Lawful K) where
-    pub shown-fair : All (Fair K (length S.totals)) (pulses K S.totals)
-    shown-fair = pulses_fair K O S.totals (held_within K (length s.slots) h S.totals S.held).1
+    pub shown_fair : All (Fair K (length S.totals)) (pulses K S.totals)
+    shown_fair = pulses_fair K O S.totals (held_within K (length s.slots) h S.totals S.held).1
 
-    pub shown-days : s.days ≤ 1000
-    shown-days = omega (arith, S.days, (held_within K (length s.slots) h S.totals S.held).0)
+    pub shown_days : s.days ≤ 1000
+    shown_days = omega (arith, S.days, (held_within K (length s.slots) h S.totals S.held).0)
 
     -- a standing total is within 2,000 times the bound
-    pub standing-small : (j d : ℕ) → j ≤ s.count → Within K 2000 (standing K (stand_in K j s.slots) d)
-    standing-small j d l =
-        let f = pulses-few K O S.totals in
+    pub standing_small : (j d : ℕ) → j ≤ s.count → Within K 2000 (standing K (stand_in K j s.slots) d)
+    standing_small j d l =
+        let f = pulses_few K O S.totals in
         let m = (held_within K (length s.slots) h S.totals S.held).0 in
         let c = S.count in
         let k = chosen_length (λ p. not (S.out p)) (take j (pulses K S.totals)) in
         let t = length-take-le j (pulses K S.totals) (omega arith) in
-        rw (slots-left j (omega arith))
+        rw (slots_left j (omega arith))
         (up_to_more K.arity K.bound (length (chosen (λ p. not (S.out p)) (take j (pulses K S.totals))) * 2) 2000 _ (omega arith)
-        (standing-up-to K O 2 (chosen (λ p. not (S.out p)) (take j (pulses K S.totals))) d
-        (all_chosen _ _ (take j (pulses K S.totals)) (All-take _ j (pulses K S.totals) (All-weaker _ _ (λ p q. q.amount) (pulses K S.totals) shown-fair)))))
+        (standing_up_to K O 2 (chosen (λ p. not (S.out p)) (take j (pulses K S.totals))) d
+        (all_chosen _ _ (take j (pulses K S.totals)) (All-take _ j (pulses K S.totals) (All-weaker _ _ (λ p q. q.amount) (pulses K S.totals) shown_fair)))))
 
     -- so it never lacks a value
-    pub never-lacks : (d : ℕ) → Lacks K s.slots s.count d → ⊥
-    never-lacks d (j, l, inl (g, b)) = shows_full K h s S j g b
-    never-lacks d (j, l, inr e) = both_ways _ e (O.roomy _ (up_to_more K.arity K.bound 2000 5000000 _ (omega arith) (standing-small j d l)))
+    pub never_lacks : (d : ℕ) → Lacks K s.slots s.count d → ⊥
+    never_lacks d (j, l, inl (g, b)) = shows_full K h s S j g b
+    never_lacks d (j, l, inr e) = both_ways _ e (O.roomy _ (up_to_more K.arity K.bound 2000 5000000 _ (omega arith) (standing_small j d l)))

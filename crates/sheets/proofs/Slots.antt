@@ -49,8 +49,8 @@ pub held_within : (slots : List (Option Entry)) (k : ℕ) → (get_or slots k No
 held_within slots k f = elim (cases_lt k (length slots)) [ inl h ↦ h | inr h ↦ absurd (f (get_or_past slots k None h)) ]
 
 module _ (K : Kind) (c : Call K) (before : List (Option Entry)) where
-  pub marked-none : Marked c 0 before before
-  marked-none = record { capacity = refl; full = λ k h. absurd (omega arith); done = λ k h. absurd (omega arith); rest = λ k h. refl }
+  pub marked_none : Marked c 0 before before
+  marked_none = record { capacity = refl; full = λ k h. absurd (omega arith); done = λ k h. absurd (omega arith); rest = λ k h. refl }
 
   -- one slot more
   pub marked_more : (k : ℕ) (here after : List (Option Entry)) (n changed : ℕ) → Marked c k before here → changed ≡ marks_changed c k before → SlotMarked K c k here after (Ok n) →
@@ -71,48 +71,48 @@ module _ (K : Kind) (c : Call K) (before : List (Option Entry)) where
   )
 
   -- or the slot is blank
-  pub marked-blank : (k n : ℕ) (here after : List (Option Entry)) → k < n → looks c k ≡ true → Marked c k before here → SlotMarked K c k here after (Err Unreachable) → Blank c n before after
-  marked-blank k n here after h l m (b, s) =
+  pub marked_blank : (k n : ℕ) (here after : List (Option Entry)) → k < n → looks c k ≡ true → Marked c k before here → SlotMarked K c k here after (Err Unreachable) → Blank c n before after
+  marked_blank k n here after h l m (b, s) =
       record { slot = k; below = h; looked = l; blank = sym (m.rest k (omega arith)) ∙ b; marked_before = subst (λ t. Marked c k before t) (sym s) m }
 
 -- a call that names one slot alone
 module _ (K : Kind) (m : Mark) (k : ℕ) where
-  other-change : (i : ℕ) (o : Option Entry) → (i ≡ k → ⊥) → change {K = K} (marking_one m (suc k)) i o ≡ 0
-  other-change i None f = refl
-  other-change i (Some e) f = rw (ne_eqb (suc k) (suc i) (λ z. f (omega arith))) refl
+  other_change : (i : ℕ) (o : Option Entry) → (i ≡ k → ⊥) → change {K = K} (marking_one m (suc k)) i o ≡ 0
+  other_change i None f = refl
+  other_change i (Some e) f = rw (ne_eqb (suc k) (suc i) (λ z. f (omega arith))) refl
 
-  other-marked : (i : ℕ) (o : Option Entry) → (i ≡ k → ⊥) → marked {K = K} (marking_one m (suc k)) i o ≡ o
-  other-marked i None f = refl
-  other-marked i (Some e) f = rw (ne_eqb (suc k) (suc i) (λ z. f (omega arith))) refl
+  other_marked : (i : ℕ) (o : Option Entry) → (i ≡ k → ⊥) → marked {K = K} (marking_one m (suc k)) i o ≡ o
+  other_marked i None f = refl
+  other_marked i (Some e) f = rw (ne_eqb (suc k) (suc i) (λ z. f (omega arith))) refl
 
-  none-changed : (n : ℕ) (slots : List (Option Entry)) → n ≤ k → marks_changed {K = K} (marking_one m (suc k)) n slots ≡ 0
+  none_changed : (n : ℕ) (slots : List (Option Entry)) → n ≤ k → marks_changed {K = K} (marking_one m (suc k)) n slots ≡ 0
   unfolding marks_changed
-  none-changed zero slots h = refl
-  none-changed (suc n) slots h = rw (none-changed n slots (omega arith), other-change n (get_or slots n None) (λ z. omega arith)) refl
+  none_changed zero slots h = refl
+  none_changed (suc n) slots h = rw (none_changed n slots (omega arith), other_change n (get_or slots n None) (λ z. omega arith)) refl
 
-  one-changed : (n : ℕ) (slots : List (Option Entry)) → k < n → marks_changed {K = K} (marking_one m (suc k)) n slots ≡ change {K = K} (marking_one m (suc k)) k (get_or slots k None)
+  one_changed : (n : ℕ) (slots : List (Option Entry)) → k < n → marks_changed {K = K} (marking_one m (suc k)) n slots ≡ change {K = K} (marking_one m (suc k)) k (get_or slots k None)
   unfolding marks_changed
-  one-changed zero slots h = absurd (omega arith)
-  one-changed (suc n) slots h = elim (cases_eq k n) [
-    | inl e ↦ rw (none-changed n slots (omega arith), e) (zero-add _)
-    | inr e ↦ rw (one-changed n slots (omega arith), other-change n (get_or slots n None) (λ z. e (sym z))) (add-zero _)
+  one_changed zero slots h = absurd (omega arith)
+  one_changed (suc n) slots h = elim (cases_eq k n) [
+    | inl e ↦ rw (none_changed n slots (omega arith), e) (zero-add _)
+    | inr e ↦ rw (one_changed n slots (omega arith), other_change n (get_or slots n None) (λ z. e (sym z))) (add-zero _)
   ]
 
-  pub one-marked : (n : ℕ) (before after : List (Option Entry)) (r : Result ℕ Stop) → k < n → SlotMarked K (marking_one m (suc k)) k before after r → SlotsMarked K (marking_one m (suc k)) n before after r
-  one-marked n before after (Ok changed) h (f, e, s) = (
+  pub one_marked : (n : ℕ) (before after : List (Option Entry)) (r : Result ℕ Stop) → k < n → SlotMarked K (marking_one m (suc k)) k before after r → SlotsMarked K (marking_one m (suc k)) n before after r
+  one_marked n before after (Ok changed) h (f, e, s) = (
     record {
       capacity = ap length s ∙ length-set _ _ _;
       full = λ i l o b. f (ap (λ a. get_or before a None) (let z = eqb-true (suc k) (suc i) o in omega arith) ∙ b);
       done = λ i l. elim (cases_eq i k) [
         | inl j ↦ rw (s, j) (get_or-set_same before k _ None (held_within before k f))
-        | inr j ↦ rw s (get_or-set_other before k i _ None j ∙ sym (other-marked i (get_or before i None) j))
+        | inr j ↦ rw s (get_or-set_other before k i _ None j ∙ sym (other_marked i (get_or before i None) j))
       ];
       rest = λ i l. rw s (get_or-set_other before k i _ None (λ j. omega arith));
     },
-    e ∙ sym (one-changed n before h),
+    e ∙ sym (one_changed n before h),
   )
-  one-marked n before after (Err (Refused r)) h s = s
-  one-marked n before after (Err Unreachable) h (b, s) = record {
+  one_marked n before after (Err (Refused r)) h s = s
+  one_marked n before after (Err Unreachable) h (b, s) = record {
     slot = k;
     below = h;
     looked = eq-eqb (suc k) (suc k) refl;
@@ -120,7 +120,7 @@ module _ (K : Kind) (m : Mark) (k : ℕ) where
     marked_before = record {
       capacity = ap length s;
       full = λ i l o. absurd (let z = eqb-true (suc k) (suc i) o in omega arith);
-      done = λ i l. rw s (sym (other-marked i (get_or before i None) (λ z. omega arith)));
+      done = λ i l. rw s (sym (other_marked i (get_or before i None) (λ z. omega arith)));
       rest = λ i l. rw s refl;
     };
   }
@@ -128,4 +128,4 @@ module _ (K : Kind) (m : Mark) (k : ℕ) where
 pub one_marked_by_number : (K : Kind) (m : Mark) (i n : ℕ) (before after : List (Option Entry)) (r : Result ℕ Stop) → 1 ≤ i → i ≤ n →
     SlotMarked K (marking_one m (suc (i - 1))) (i - 1) before after r → SlotsMarked K (marking_one m i) n before after r
 one_marked_by_number K m i n before after r f h s =
-    subst (λ j. SlotsMarked K (marking_one m j) n before after r) (omega arith) (one-marked K m (i - 1) n before after r (omega arith) s)
+    subst (λ j. SlotsMarked K (marking_one m j) n before after r) (omega arith) (one_marked K m (i - 1) n before after r (omega arith) s)

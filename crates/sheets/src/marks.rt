@@ -1,6 +1,6 @@
 // Marking pulses out and in.
 ghost use Rattle.std.specs.Prelude.{◌≡◌, suc, ◌<◌, ◌≤◌, length, if◌then◌else◌, None, nat_eq, slice_index_or, slice_set};
-ghost use Rattle.shelves.specs.Slots.{shown, slot_of, listed, number as mark-number};
+ghost use Rattle.shelves.specs.Slots.{shown, slot_of, listed, number as mark_number};
 ghost use Rattle.sheets.specs.Inside.{RowHeld, SlotMarked, SlotsMarked};
 ghost use Rattle.sheets.specs.Calls.{marking, marking_one};
 
@@ -22,8 +22,8 @@ pub(crate) fn held_row<K: Total, S: Shelf<K>>(shelf: &S, slot: usize) -> Result<
 // Marks the row in a slot, unless it has that mark. Answers how many marks changed.
 fn mark_row<K: Total, S: Shelf<K>>(shelf: &mut S, slot: usize, row: Row<K>, mark: Mark) -> usize
     requires { (slot < length (S.slots shelf.old)) × ((row.mark ≤ 1) × (slice_index_or (S.slots shelf.old) slot None ≡ shown K.kind K.columns row)) }
-    ensures answer { result ≡ (if nat_eq row.mark (mark-number mark) then 0 else 1) }
-    ensures slots { S.slots shelf.new ≡ slice_set (S.slots shelf.old) slot (slot_of row.first row.width (mark-number mark) (listed K.kind.arity (K.columns row.amount))) }
+    ensures answer { result ≡ (if nat_eq row.mark (mark_number mark) then 0 else 1) }
+    ensures slots { S.slots shelf.new ≡ slice_set (S.slots shelf.old) slot (slot_of row.first row.width (mark_number mark) (listed K.kind.arity (K.columns row.amount))) }
     ensures outside { S.outside shelf.new ≡ S.outside shelf.old }
 {
     if row.mark == mark.number() {

@@ -25,23 +25,23 @@ module _ (bytes new : List ℕ) (at : ℕ) (within : at + length new ≤ length 
   front : length (take at bytes) ≡ at
   front = length-take-le at bytes (omega arith)
 
-  pub length-overwritten : length (overwritten bytes at new) ≡ length bytes
-  length-overwritten = let e = front in simp (length-append, length-drop) (omega arith)
+  pub length_overwritten : length (overwritten bytes at new) ≡ length bytes
+  length_overwritten = let e = front in simp (length-append, length-drop) (omega arith)
 
   -- the part written
   pub part_same : (n : ℕ) → length new ≡ n → part at n (overwritten bytes at new) ≡ new
   part_same n e = ap (take n) (drop_at (take at bytes) _ at front) ∙ take_at new _ n e
 
   -- the parts before
-  pub part-below : (j n : ℕ) → j + n ≤ at → part j n (overwritten bytes at new) ≡ part j n bytes
-  part-below j n h =
+  pub part_below : (j n : ℕ) → j + n ≤ at → part j n (overwritten bytes at new) ≡ part j n bytes
+  part_below j n h =
       let e = front in
       let short : take (j + n) (overwritten bytes at new) ≡ take (j + n) bytes = take-append-le (j + n) (take at bytes) _ (omega arith) ∙ take-take (j + n) at bytes h in
       sym (drop-take j n (overwritten bytes at new)) ∙ (ap (drop j) short ∙ drop-take j n bytes)
 
   -- what lies past it
-  pub drop-above : (j : ℕ) → at + length new ≤ j → drop j (overwritten bytes at new) ≡ drop j bytes
-  drop-above j h =
+  pub drop_above : (j : ℕ) → at + length new ≤ j → drop j (overwritten bytes at new) ≡ drop j bytes
+  drop_above j h =
       let e = front in
       let to : ℕ = at + length new in
       let there : drop to (overwritten bytes at new) ≡ drop to bytes =
@@ -65,10 +65,10 @@ module _ {X : Type 0} (f : List ℕ → X) (bytes new : List ℕ) (n m slot : �
   long = omega arith
 
   others : (k : ℕ) (d : X) → k < m → (k < slot) ⊎ (slot < k) → is k ≡ was k
-  others k d h (inl l) = ap f (part-below bytes new (slot * n) long (k * n) n (slot_before n k slot l))
+  others k d h (inl l) = ap f (part_below bytes new (slot * n) long (k * n) n (slot_before n k slot l))
   others k d h (inr l) =
       let after : slot * n + length new ≤ k * n = omega (arith, slot_before n slot k l) in
-      ap (λ t. f (take n t)) (drop-above bytes new (slot * n) long (k * n) after)
+      ap (λ t. f (take n t)) (drop_above bytes new (slot * n) long (k * n) after)
 
   each : (k : ℕ) (d : X) → k < m → get_or (map is (range_with_len 0 m)) k d ≡ get_or (set (map was (range_with_len 0 m)) slot (f new)) k d
   each k d h = get_or-map-range_with_len is 0 m k k d h (zero-add k) ∙ sym (at (cases_order k slot))

@@ -6,7 +6,7 @@ use Rattle.kinds.specs.Kinds.{Kind, Of}
 use Rattle.shelves.specs.declared.row.Row.{Row}
 use Rattle.shelves.specs.Bytes.{overwritten, packed, past, shown_bytes, size, slot_bytes, unpacked, whole}
 use Rattle.shelves.specs.Slots.{Entry, Holds, shown}
-use Rattle.shelves.proofs.Overwrites.{drop-above, length-overwritten, slot_before, slot_within, slots_set}
+use Rattle.shelves.proofs.Overwrites.{drop_above, length_overwritten, slot_before, slot_within, slots_set}
 use Rattle.shelves.proofs.Packs.{length_packed}
 
 pub length_shown : (k : Kind) (bytes : List ℕ) → length (shown_bytes k bytes) ≡ whole k.arity bytes
@@ -30,19 +30,19 @@ module _ (k : Kind) {X : Type 0} (columns : X → Of k) (row : Row X) (bytes : L
   long = let e = length_packed k columns row in let w = within in omega arith
 
   same_whole : whole k.arity after ≡ whole k.arity bytes
-  same_whole = ap (λ n. n / size k.arity) (length-overwritten bytes new (slot * size k.arity) long)
+  same_whole = ap (λ n. n / size k.arity) (length_overwritten bytes new (slot * size k.arity) long)
 
-  pub shown-put : unpacked k new ≡ shown k columns row → shown_bytes k after ≡ set (shown_bytes k bytes) slot (shown k columns row)
-  shown-put shows =
+  pub shown_put : unpacked k new ≡ shown k columns row → shown_bytes k after ≡ set (shown_bytes k bytes) slot (shown k columns row)
+  shown_put shows =
       ap (λ n. map (λ i. unpacked k (slot_bytes k.arity after i)) (range_with_len 0 n)) same_whole
       ∙ (slots_set (unpacked k) bytes new (size k.arity) (whole k.arity bytes) slot (length_packed k columns row) within below
       ∙ ap (set (shown_bytes k bytes) slot) shows)
 
-  pub past-put : past k after ≡ past k bytes
-  past-put =
+  pub past_put : past k after ≡ past k bytes
+  past_put =
       let e = length_packed k columns row in
       let end : slot * size k.arity + length new ≤ whole k.arity bytes * size k.arity = omega (arith, slot_before (size k.arity) slot (whole k.arity bytes) below) in
-      ap (λ n. drop (n * size k.arity) after) same_whole ∙ drop-above bytes new (slot * size k.arity) long (whole k.arity bytes * size k.arity) end
+      ap (λ n. drop (n * size k.arity) after) same_whole ∙ drop_above bytes new (slot * size k.arity) long (whole k.arity bytes * size k.arity) end
 
 -- what is answered of a slot that shows the same
 pub holds_at : (k : Kind) {X : Type 0} (columns : X → Of k) (d e : Option Entry) (r : Option (Row X)) → d ≡ e → Holds k columns e r → Holds k columns d r

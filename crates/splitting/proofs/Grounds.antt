@@ -45,24 +45,24 @@ module _ (K : Kind) (xs : Record K) (entries capacity m : ℕ) (few : 1 < m → 
 
 -- what an accepted take may rely on
 module _ (K : Kind) (xs : Record K) (entries capacity : ℕ) (A : Accepted K xs entries capacity) where
-  pub accepted-few : length xs ≤ 1000
-  accepted-few = elim (cases_lt 1000 (length xs)) [ inl h ↦ absurd (A TooManyDays h) | inr h ↦ h ]
+  pub accepted_few : length xs ≤ 1000
+  accepted_few = elim (cases_lt 1000 (length xs)) [ inl h ↦ absurd (A TooManyDays h) | inr h ↦ h ]
 
-  pub accepted-room : length xs + 2 ≤ entries
-  accepted-room = elim (cases_lt entries (length xs + 2)) [ inl h ↦ absurd (A WorkTooShort h) | inr h ↦ h ]
+  pub accepted_room : length xs + 2 ≤ entries
+  accepted_room = elim (cases_lt entries (length xs + 2)) [ inl h ↦ absurd (A WorkTooShort h) | inr h ↦ h ]
 
-  pub accepted-slots : length xs ≤ capacity
-  accepted-slots = elim (cases_lt capacity (length xs)) [ inl h ↦ absurd (A ShelfTooSmall h) | inr h ↦ h ]
+  pub accepted_slots : length xs ≤ capacity
+  accepted_slots = elim (cases_lt capacity (length xs)) [ inl h ↦ absurd (A ShelfTooSmall h) | inr h ↦ h ]
 
-  enter-below : (n d : ℕ) → d < n → 1 ≤ d → d ≤ length xs → within K.arity K.bound (trace K xs d) ≡ true
-  enter-below zero d h = absurd (omega arith)
-  enter-below (suc n) d h = elim (cases_lt d n) [
-    | inl l ↦ enter-below n d l
+  enter_below : (n d : ℕ) → d < n → 1 ≤ d → d ≤ length xs → within K.arity K.bound (trace K xs d) ≡ true
+  enter_below zero d h = absurd (omega arith)
+  enter_below (suc n) d h = elim (cases_lt d n) [
+    | inl l ↦ enter_below n d l
     | inr l ↦ λ s e. elim (cases_Bool (within K.arity K.bound (trace K xs d))) [
       | inl q ↦ q
-      | inr q ↦ absurd (A (MayNotEnter d) (record { starts = s; ends = e; barred = q; first = λ i f g. enter-below n i (omega arith) f (omega arith) }))
+      | inr q ↦ absurd (A (MayNotEnter d) (record { starts = s; ends = e; barred = q; first = λ i f g. enter_below n i (omega arith) f (omega arith) }))
     ]
   ]
 
-  pub accepted-enter : BarredDay K xs None
-  accepted-enter d = enter-below (suc d) d (omega arith)
+  pub accepted_enter : BarredDay K xs None
+  accepted_enter d = enter_below (suc d) d (omega arith)

@@ -46,8 +46,8 @@ module _ {X : Type 0} (m : ℕ) (x : ℕ → X) (v : View X) (first marks day : 
       }
 
   -- the run that is closed where the trace changes, or at the end
-  pub run-closed : day ≤ m → (day < m → x first ≡ x (suc day) → ⊥) → Run m x first day
-  run-closed h n =
+  pub run_closed : day ≤ m → (day < m → x first ≡ x (suc day) → ⊥) → Run m x first day
+  run_closed h n =
       record {
         order = A.order;
         end = h;
@@ -57,8 +57,8 @@ module _ {X : Type 0} (m : ℕ) (x : ℕ → X) (v : View X) (first marks day : 
       }
 
   -- the next day holds another total
-  pub laid-changed : suc day ≤ m → (x first ≡ x (suc day) → ⊥) → Laid m x (with_mark (with_run v first day (x first)) marks (suc day)) (suc day) (suc marks) (suc day)
-  laid-changed h n =
+  pub laid_changed : suc day ≤ m → (x first ≡ x (suc day) → ⊥) → Laid m x (with_mark (with_run v first day (x first)) marks (suc day)) (suc day) (suc marks) (suc day)
+  laid_changed h n =
       let o = A.order in
       let f = A.few in
       let new = put_same v.mark marks (suc day) marks refl in
@@ -66,7 +66,7 @@ module _ {X : Type 0} (m : ℕ) (x : ℕ → X) (v : View X) (first marks day : 
         order = omega arith;
         level = λ d g l. ap x (omega arith);
         opens = λ g q. n (sym (A.level day o (omega arith)) ∙ (ap x (omega arith) ∙ q));
-        knows = knows_more m v x first day A.knows (run-closed (omega arith) (λ _. n));
+        knows = knows_more m v x first day A.knows (run_closed (omega arith) (λ _. n));
         few = omega arith;
         rising = λ i j g l. elim (cases_lt j marks) [
           | inl k ↦ rw (put_other v.mark marks (suc day) i (λ e. omega arith), put_other v.mark marks (suc day) j (λ e. omega arith)) (A.rising i j g k)
@@ -88,7 +88,7 @@ module _ {X : Type 0} (m : ℕ) (x : ℕ → X) (v : View X) (first marks day : 
 
 -- all laid out: the last run reaches the last day, and the marks serve for all bumps and pits
 pub laid_known : {X : Type 0} (m : ℕ) (x : ℕ → X) (v : View X) (first marks : ℕ) → Laid m x v first marks m → Knows m (suc m) (with_run v first m (x first)) x
-laid_known m x v first marks A = knows_more m v x first m A.knows (run-closed m x v first marks m A (omega arith) (λ h. absurd (omega arith)))
+laid_known m x v first marks A = knows_more m v x first m A.knows (run_closed m x v first marks m A (omega arith) (λ h. absurd (omega arith)))
 
 pub laid_marks : (K : Kind) → Lawful K → (m : ℕ) (x : Trace K) (v : View (Of K)) (first marks : ℕ) → Laid m x v first marks m → Marks K x v.mark 0 marks 0 m
 laid_marks K O m x v first marks A =

@@ -4,7 +4,7 @@ use Rattle.std.proofs.lemmas.Bool.{cases_lt}
 use Rattle.kinds.specs.Kinds.{Kind, Of, Lawful}
 use Rattle.transform.specs.Windows.{Trace, higher}
 use Rattle.transform.specs.Theory.{turned, Bump}
-use Rattle.transform.proofs.Order.{Below, AtMost, not-below, higher-left, higher-right}
+use Rattle.transform.proofs.Order.{Below, AtMost, not_below, higher_left, higher_right}
 use Rattle.splitting.specs.Runs.{Run, Turn}
 
 -- z has a bump from s to e, y has the total t there, which joins it to the runs of t beside it
@@ -14,28 +14,28 @@ module _ (K : Kind) (O : Lawful K) (m : ℕ) (z y : Trace K) (s e s' e' : ℕ) (
     (before : (d : ℕ) → d < s → y d ≡ z d) (on : (d : ℕ) → s ≤ d → d ≤ e → y d ≡ t) (after : (d : ℕ) → e < d → y d ≡ z d)
     (left : ((z (s - 1) ≡ t) × Run m z s' (s - 1)) ⊎ ((z (s - 1) ≡ t → ⊥) × (s' ≡ s)))
     (right : ((z (suc e) ≡ t) × Run m z (suc e) e') ⊎ ((z (suc e) ≡ t → ⊥) × (e' ≡ e))) where
-  pub left-order : s' ≤ s
-  left-order = elim left [ inl l ↦ let o = l.1.order in omega arith | inr l ↦ let o = l.1 in omega arith ]
+  pub left_order : s' ≤ s
+  left_order = elim left [ inl l ↦ let o = l.1.order in omega arith | inr l ↦ let o = l.1 in omega arith ]
 
-  pub right-order : e ≤ e'
-  right-order = elim right [ inl r ↦ let o = r.1.order in omega arith | inr r ↦ let o = r.1 in omega arith ]
+  pub right_order : e ≤ e'
+  right_order = elim right [ inl r ↦ let o = r.1.order in omega arith | inr r ↦ let o = r.1 in omega arith ]
 
-  level-left : (d : ℕ) → s' ≤ d → d < s → y d ≡ t
-  level-left d h l = before d l ∙ elim left [
+  level_left : (d : ℕ) → s' ≤ d → d < s → y d ≡ t
+  level_left d h l = before d l ∙ elim left [
     | inl (q, Q) ↦ Q.level d h (omega arith) ∙ (sym (Q.level (s - 1) Q.order (omega arith)) ∙ q)
     | inr (q, o) ↦ absurd (omega arith)
   ]
 
-  level-right : (d : ℕ) → e < d → d ≤ e' → y d ≡ t
-  level-right d h l = after d h ∙ elim right [
+  level_right : (d : ℕ) → e < d → d ≤ e' → y d ≡ t
+  level_right d h l = after d h ∙ elim right [
     | inl (q, Q) ↦ Q.level d h l ∙ q
     | inr (q, o) ↦ absurd (omega arith)
   ]
 
-  pub one-total : (d : ℕ) → s' ≤ d → d ≤ e' → y d ≡ t
-  one-total d h l = elim (cases_lt d s) [
-    | inl g ↦ level-left d h g
-    | inr g ↦ elim (cases_lt e d) [ inl f ↦ level-right d f l | inr f ↦ on d g f ]
+  pub one_total : (d : ℕ) → s' ≤ d → d ≤ e' → y d ≡ t
+  one_total d h l = elim (cases_lt d s) [
+    | inl g ↦ level_left d h g
+    | inr g ↦ elim (cases_lt e d) [ inl f ↦ level_right d f l | inr f ↦ on d g f ]
   ]
 
   -- where the new run begins and ends, a run of z did
@@ -51,35 +51,35 @@ module _ (K : Kind) (O : Lawful K) (m : ℕ) (z y : Trace K) (s e s' e' : ℕ) (
     | inr (p, o) ↦ R.ends last (ap z (omega arith) ∙ (q ∙ ap z o))
   ]
 
-  pub new-run : Run m y s' e'
-  new-run =
-      let a = left-order in
-      let b = right-order in
+  pub new_run : Run m y s' e'
+  new_run =
+      let a = left_order in
+      let b = right_order in
       let c = R.order in
       record {
         order = omega arith;
         end = elim right [ inl (p, Q) ↦ Q.end | inr (p, o) ↦ omega arith ];
-        level = λ d h l. one-total d h l ∙ sym (one-total s' (omega arith) (omega arith));
+        level = λ d h l. one_total d h l ∙ sym (one_total s' (omega arith) (omega arith));
         begins = λ h q. elim left [
           | inl (p, Q) ↦ let o = Q.order in Q.begins h (sym (before (s' - 1) (omega arith)) ∙ (q ∙ before s' (omega arith)))
-          | inr (p, o) ↦ p (ap z (omega arith) ∙ (sym (before (s' - 1) (omega arith)) ∙ (q ∙ one-total s' (omega arith) (omega arith))))
+          | inr (p, o) ↦ p (ap z (omega arith) ∙ (sym (before (s' - 1) (omega arith)) ∙ (q ∙ one_total s' (omega arith) (omega arith))))
         ];
         ends = λ h q. elim right [
           | inl (p, Q) ↦ let o = Q.order in Q.ends h (sym (after (suc e') (omega arith)) ∙ (q ∙ after e' (omega arith)))
-          | inr (p, o) ↦ p (ap z (omega arith) ∙ (sym (after (suc e') (omega arith)) ∙ (q ∙ one-total e' (omega arith) (omega arith))))
+          | inr (p, o) ↦ p (ap z (omega arith) ∙ (sym (after (suc e') (omega arith)) ∙ (q ∙ one_total e' (omega arith) (omega arith))))
         ];
       }
 
-  low-left : AtMost K (z (s - 1)) t
-  low-left = rw is (higher-left K O (z (s - 1)) (z (suc e)))
+  low_left : AtMost K (z (s - 1)) t
+  low_left = rw is (higher_left K O (z (s - 1)) (z (suc e)))
 
-  low-right : AtMost K (z (suc e)) t
-  low-right = rw is (higher-right K O (z (s - 1)) (z (suc e)))
+  low_right : AtMost K (z (suc e)) t
+  low_right = rw is (higher_right K O (z (s - 1)) (z (suc e)))
 
   -- a bump or a pit of y before the new run, or after it, is one of z
-  pub turn-before : (p w : ℕ) → Turn K y p w → p + w < s' → Turn K z p w
-  turn-before p w (inl B) h =
-      let a = left-order in
+  pub turn_before : (p w : ℕ) → Turn K y p w → p + w < s' → Turn K z p w
+  turn_before p w (inl B) h =
+      let a = left_order in
       let some = B.some in
       inl (record {
         some = B.some;
@@ -87,12 +87,12 @@ module _ (K : Kind) (O : Lawful K) (m : ℕ) (z y : Trace K) (s e s' e' : ℕ) (
         rises = rw (← before p (omega arith), ← before (suc p) (omega arith)) B.rises;
         falls = elim (cases_lt (suc (p + w)) s) [
           | inl g ↦ rw (← before (suc (p + w)) g, ← before (suc p) (omega arith)) B.falls
-          | inr g ↦ absurd (not-below K O _ _ low-left
+          | inr g ↦ absurd (not_below K O _ _ low_left
               (rw (on (suc (p + w)) (omega arith) (let o = R.order in omega arith), (sym (B.level (p + w) (omega arith) (omega arith)) ∙ (before (p + w) (omega arith) ∙ ap z (let o : p + w ≡ s - 1 = omega arith in o)))) at B.falls))
         ];
       })
-  turn-before p w (inr B) h =
-      let a = left-order in
+  turn_before p w (inr B) h =
+      let a = left_order in
       let some = B.some in
       inr (record {
         some = B.some;
@@ -104,22 +104,22 @@ module _ (K : Kind) (O : Lawful K) (m : ℕ) (z y : Trace K) (s e s' e' : ℕ) (
         ];
       })
 
-  pub turn-after : (p w : ℕ) → Turn K y p w → e' ≤ p → Turn K z p w
-  turn-after p w (inl B) h =
-      let b = right-order in
+  pub turn_after : (p w : ℕ) → Turn K y p w → e' ≤ p → Turn K z p w
+  turn_after p w (inl B) h =
+      let b = right_order in
       let some = B.some in
       inl (record {
         some = B.some;
         level = λ d f l. sym (after d (omega arith)) ∙ (B.level d f l ∙ after (suc p) (omega arith));
         rises = elim (cases_lt e p) [
           | inl g ↦ rw (← after p g, ← after (suc p) (omega arith)) B.rises
-          | inr g ↦ absurd (not-below K O _ _ low-right
+          | inr g ↦ absurd (not_below K O _ _ low_right
               (rw (on p (let o = R.order in omega arith) (omega arith), after (suc p) (omega arith), let o : p ≡ e = omega arith in o) at B.rises))
         ];
         falls = rw (← after (suc (p + w)) (omega arith), ← after (suc p) (omega arith)) B.falls;
       })
-  turn-after p w (inr B) h =
-      let b = right-order in
+  turn_after p w (inr B) h =
+      let b = right_order in
       let some = B.some in
       inr (record {
         some = B.some;

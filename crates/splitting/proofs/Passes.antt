@@ -6,38 +6,38 @@ use Rattle.kinds.specs.Kinds.{Kind, Of, Lawful}
 use Rattle.transform.specs.Windows.{Trace, L, higher}
 use Rattle.transform.specs.Pulses.{in_turn}
 use Rattle.transform.specs.Theory.{turned, Bump}
-use Rattle.transform.proofs.Order.{Below, AtMost, turned_lawful, not-below}
-use Rattle.transform.proofs.Windows.{Apart, kept-or-bump, L-levels}
+use Rattle.transform.proofs.Order.{Below, AtMost, turned_lawful, not_below}
+use Rattle.transform.proofs.Windows.{Apart, kept_or_bump, L_levels}
 use Rattle.transform.proofs.Smooths.{Outside}
 use Rattle.transform.proofs.Passes.{Clear}
 use Rattle.splitting.specs.Work.{View, put, with_mark, with_run}
 use Rattle.splitting.specs.Runs.{Run, Knows, Turn, Marks}
 use Rattle.splitting.specs.Passes.{spliced, Midway, Marked}
 use Rattle.splitting.proofs.Views.{put_same, put_other}
-use Rattle.splitting.proofs.Runs.{run-same, run-from, run-to, knows_again}
-use Rattle.splitting.proofs.Levelled.{left-order, right-order, one-total, begun, ended, new-run, turn-before, turn-after}
-use Rattle.splitting.proofs.Splices.{spliced_upto, spliced_past, spliced_outside, turn_within, turn_run, bump-seen, bump-there, bump-there-same, clear-end, kept-days, spliced-same}
+use Rattle.splitting.proofs.Runs.{run_same, run_from, run_to, knows_again}
+use Rattle.splitting.proofs.Levelled.{left_order, right_order, one_total, begun, ended, new_run, turn_before, turn_after}
+use Rattle.splitting.proofs.Splices.{spliced_upto, spliced_past, spliced_outside, turn_within, turn_run, bump_seen, bump_there, bump_there_same, clear_end, kept_days, spliced_same}
 
 -- what is known beside a run
 module _ (K : Kind) (O : Lawful K) (m : ℕ) (z : Trace K) (v : View (Of K)) (k : Knows m (suc m) v z) where
   pub known_from : (s : ℕ) → s ≤ m → (0 < s → z (s - 1) ≡ z s → ⊥) → (v.total s ≡ z s) × Run m z s (v.other s)
   known_from s h b =
-      let f = run-from K O m z s h b in
+      let f = run_from K O m z s h b in
       let w = (k s f.0 f.1 (let l = f.1.end in omega arith)).0 in
       (w.holds, rw w.joins f.1)
 
-  pub known-to : (e : ℕ) → e ≤ m → (e < m → z (suc e) ≡ z e → ⊥) → (v.total e ≡ z e) × Run m z (v.other e) e
-  known-to e h b =
-      let f = run-to K O m z e h b in
+  pub known_to : (e : ℕ) → e ≤ m → (e < m → z (suc e) ≡ z e → ⊥) → (v.total e ≡ z e) × Run m z (v.other e) e
+  known_to e h b =
+      let f = run_to K O m z e h b in
       let w = (k f.0 e f.1 (omega arith)).1 in
       (w.holds ∙ sym (f.1.level e f.1.order (omega arith)), rw w.joins f.1)
 
   module _ (s e : ℕ) (R : Run m z s e) where
-    pub known-left : 0 < s → (v.total (s - 1) ≡ z (s - 1)) × Run m z (v.other (s - 1)) (s - 1)
-    known-left h = known-to (s - 1) (let a = R.order in let b = R.end in omega arith) (λ l q. R.begins h (sym (ap z (let i : s ≡ suc (s - 1) = omega arith in i) ∙ q)))
+    pub known_left : 0 < s → (v.total (s - 1) ≡ z (s - 1)) × Run m z (v.other (s - 1)) (s - 1)
+    known_left h = known_to (s - 1) (let a = R.order in let b = R.end in omega arith) (λ l q. R.begins h (sym (ap z (let i : s ≡ suc (s - 1) = omega arith in i) ∙ q)))
 
-    pub known-right : e < m → (v.total (suc e) ≡ z (suc e)) × Run m z (suc e) (v.other (suc e))
-    known-right h = known_from (suc e) h (λ l q. R.ends h (sym (ap z (let i : e ≡ suc e - 1 = omega arith in i) ∙ q)))
+    pub known_right : e < m → (v.total (suc e) ≡ z (suc e)) × Run m z (suc e) (v.other (suc e))
+    known_right h = known_from (suc e) h (λ l q. R.ends h (sym (ap z (let i : e ≡ suc e - 1 = omega arith in i) ∙ q)))
 
 -- a run above both its neighbours is a bump
 pub run_bump : (K : Kind) (m n : ℕ) (z : Trace K) (s e : ℕ) → Run m z s e → 0 < s → suc e ≡ s + n → Below K (z (s - 1)) (z s) → Below K (z (suc e)) (z s) → Bump K z (s - 1) n
@@ -69,8 +69,8 @@ in_turn_one f (suc s) h = let q : s ≡ suc s - 1 = omega arith in ap (λ k. in_
 module _ (K : Kind) (O : Lawful K) (n N : ℕ) (some : 0 < n) (x : Trace K) (A : Apart K n x) (o : Outside K N x) (v : View (Of K)) (i hi kept r : ℕ)
     (M : Midway K n (suc N) x v i hi kept r) where
   -- the run of a mark
-  pub marked-run : i < hi → r < v.mark i → (v.total (v.mark i) ≡ spliced K n x r (v.mark i)) × Run (suc N) (spliced K n x r) (v.mark i) (v.other (v.mark i))
-  marked-run h l = known_from K O (suc N) (spliced K n x r) v M.knows (v.mark i) (M.ahead.within i (omega arith) h l) (λ _. M.ahead.begins i (omega arith) h l)
+  pub marked_run : i < hi → r < v.mark i → (v.total (v.mark i) ≡ spliced K n x r (v.mark i)) × Run (suc N) (spliced K n x r) (v.mark i) (v.other (v.mark i))
+  marked_run h l = known_from K O (suc N) (spliced K n x r) v M.knows (v.mark i) (M.ahead.within i (omega arith) h l) (λ _. M.ahead.begins i (omega arith) h l)
 
   -- a mark that was dealt with
   pub skipped : i < hi → v.mark i ≤ r → Midway K n (suc N) x v (suc i) hi kept r
@@ -96,9 +96,9 @@ module _ (K : Kind) (O : Lawful K) (n N : ℕ) (some : 0 < n) (x : Trace K) (A :
       ]
 
   -- no marks are left: the pass is done
-  pub pass-ends : hi ≤ i → (spliced K n x r ≡ L K n x) × Marks K (spliced K n x r) v.mark 0 kept 0 (suc N) × ((c : ℕ) → r ≤ c → Bump K x c n → ⊥)
-  pass-ends h = (
-    spliced-all,
+  pub pass_ends : hi ≤ i → (spliced K n x r ≡ L K n x) × Marks K (spliced K n x r) v.mark 0 kept 0 (suc N) × ((c : ℕ) → r ≤ c → Bump K x c n → ⊥)
+  pass_ends h = (
+    spliced_all,
     record {
       rising = M.early.rising;
       within = λ a f g k. let b = M.early.within a f g k in let c = M.reach in omega arith;
@@ -113,20 +113,20 @@ module _ (K : Kind) (O : Lawful K) (n N : ℕ) (some : 0 < n) (x : Trace K) (A :
 
       none : (c : ℕ) → r ≤ c → Bump K x c n → ⊥
       none c f B =
-          let C = bump-seen K O n N x A o r M.clear c f B in
+          let C = bump_seen K O n N x A o r M.clear c f B in
           let w = turn_within K O (turned_lawful K O) N (spliced K n x r) (spliced_outside K O n N x o r) c n (inl C) in
           none_left c n (inl C) f (omega arith)
 
-      spliced-all : spliced K n x r ≡ L K n x
-      spliced-all = λ j d. (elim (cases_lt r d) as (λ _. spliced K n x r d ≡ L K n x d) [
-        | inl f ↦ spliced_past K n x r d f ∙ sym (kept-days K O n N x A o r M.clear d (λ p a b. none p a) d f (omega arith))
+      spliced_all : spliced K n x r ≡ L K n x
+      spliced_all = λ j d. (elim (cases_lt r d) as (λ _. spliced K n x r d ≡ L K n x d) [
+        | inl f ↦ spliced_past K n x r d f ∙ sym (kept_days K O n N x A o r M.clear d (λ p a b. none p a) d f (omega arith))
         | inr f ↦ spliced_upto K n x r d f
       ]) j
 
   module _ (s e : ℕ) (here : i < hi) (marked : v.mark i ≡ s) (past : r < s) (R : Run (suc N) (spliced K n x r) s e) where
     -- of the bumps and pits that begin after day r and up to day e, all begin on day s
-    pub first-turn : (p w : ℕ) → Turn K (spliced K n x r) p w → r ≤ p → p < e → s ≡ suc p
-    first-turn p w T h l =
+    pub first_turn : (p w : ℕ) → Turn K (spliced K n x r) p w → r ≤ p → p < e → s ≡ suc p
+    first_turn p w T h l =
         let Q = turn_run K O (turned_lawful K O) N (spliced K n x r) (spliced_outside K O n N x o r) p w T in
         let c = R.end in
         let j = M.ahead.turns p w T h (omega arith) in
@@ -135,13 +135,13 @@ module _ (K : Kind) (O : Lawful K) (n N : ℕ) (some : 0 < n) (x : Trace K) (A :
           | inl q ↦ let b : v.mark j.0 ≡ v.mark i = ap v.mark q in let d = j.3 in omega arith
           | inr q ↦ let b = j.1 in let d = j.3 in let g = M.ahead.rising i j.0 (omega arith) (omega arith) j.2 in omega arith
         ] in
-        (run-same (suc N) (spliced K n x r) s e (suc p) (p + w) R Q (omega arith) l).0
+        (run_same (suc N) (spliced K n x r) s e (suc p) (p + w) R Q (omega arith) l).0
 
     -- the marks after number i serve for a trace that has no new runs and no new bumps or pits after day u
-    ahead-on : (mark : ℕ → ℕ) → ((j : ℕ) → i < j → mark j ≡ v.mark j) → (y : Trace K) (u : ℕ) → s ≤ u →
+    ahead_on : (mark : ℕ → ℕ) → ((j : ℕ) → i < j → mark j ≡ v.mark j) → (y : Trace K) (u : ℕ) → s ≤ u →
         ((c : ℕ) → u < c → c ≤ suc N → (spliced K n x r (c - 1) ≡ spliced K n x r c → ⊥) → y (c - 1) ≡ y c → ⊥) →
         ((p w : ℕ) → Turn K y p w → u ≤ p → Turn K (spliced K n x r) p w) → Marks K y mark (suc i) hi u (suc N)
-    ahead-on mark like y u h cuts turns =
+    ahead_on mark like y u h cuts turns =
         record {
           rising = λ a b f g l. rw (like a (omega arith), like b (omega arith)) (M.ahead.rising a b (omega arith) g l);
           within = λ a f g. rw (like a (omega arith)) (λ l. M.ahead.within a (omega arith) g (omega arith));
@@ -157,21 +157,21 @@ module _ (K : Kind) (O : Lawful K) (n N : ℕ) (some : 0 < n) (x : Trace K) (A :
 
     -- the mark's run is not levelled
     module _ (not : Bump K (spliced K n x r) (s - 1) n → ⊥) where
-      pub no-bump : (p : ℕ) → r ≤ p → p < e → Bump K x p n → ⊥
-      no-bump p h l B =
-          let C = bump-seen K O n N x A o r M.clear p h B in
-          let q = first-turn p n (inl C) h l in
+      pub no_bump : (p : ℕ) → r ≤ p → p < e → Bump K x p n → ⊥
+      no_bump p h l B =
+          let C = bump_seen K O n N x A o r M.clear p h B in
+          let q = first_turn p n (inl C) h l in
           not (rw (let k : s - 1 ≡ p = omega arith in k) C)
 
       same : spliced K n x e ≡ spliced K n x r
-      same = spliced-same K O n N x A o r M.clear e (let a = R.order in omega arith) no-bump
+      same = spliced_same K O n N x A o r M.clear e (let a = R.order in omega arith) no_bump
 
-      pub run-dropped : ((w : ℕ) → Turn K (spliced K n x r) (s - 1) w → ⊥) → Midway K n (suc N) x v (suc i) hi kept e
-      run-dropped no-turn =
+      pub run_dropped : ((w : ℕ) → Turn K (spliced K n x r) (s - 1) w → ⊥) → Midway K n (suc N) x v (suc i) hi kept e
+      run_dropped no_turn =
           let a = R.order in
           record {
             reach = R.end;
-            clear = clear-end K O n N x A o r M.clear s e R (omega arith);
+            clear = clear_end K O n N x A o r M.clear s e R (omega arith);
             knows = rw same M.knows;
             behind = let b = M.behind in omega arith;
             early = rw same (record {
@@ -180,20 +180,20 @@ module _ (K : Kind) (O : Lawful K) (n N : ℕ) (some : 0 < n) (x : Trace K) (A :
               begins = M.early.begins;
               turns = λ p w T f g. elim (cases_lt p r) [
                 | inl l ↦ M.early.turns p w T f l
-                | inr l ↦ absurd (let q = first-turn p w T l g in no-turn w (rw (let k : s - 1 ≡ p = omega arith in k) T))
+                | inr l ↦ absurd (let q = first_turn p w T l g in no_turn w (rw (let k : s - 1 ≡ p = omega arith in k) T))
               ];
             });
-            ahead = rw same (ahead-on v.mark (λ j f. refl) (spliced K n x r) e a (λ c f g h. h) (λ p w T f. T));
+            ahead = rw same (ahead_on v.mark (λ j f. refl) (spliced K n x r) e a (λ c f g h. h) (λ p w T f. T));
           }
 
-      pub run-kept : Midway K n (suc N) x (with_mark v kept s) (suc i) hi (suc kept) e
-      run-kept =
+      pub run_kept : Midway K n (suc N) x (with_mark v kept s) (suc i) hi (suc kept) e
+      run_kept =
           let a = R.order in
           let b = M.behind in
           let mark : ℕ → ℕ = put v.mark kept s in
           record {
             reach = R.end;
-            clear = clear-end K O n N x A o r M.clear s e R (omega arith);
+            clear = clear_end K O n N x A o r M.clear s e R (omega arith);
             knows = rw same M.knows;
             behind = omega arith;
             early = rw same (record {
@@ -211,10 +211,10 @@ module _ (K : Kind) (O : Lawful K) (n N : ℕ) (some : 0 < n) (x : Trace K) (A :
               ];
               turns = λ p w T f g. elim (cases_lt p r) [
                 | inl l ↦ old p (M.early.turns p w T f l)
-                | inr l ↦ (kept, omega arith, omega arith, put_same v.mark kept s kept refl ∙ first-turn p w T l g)
+                | inr l ↦ (kept, omega arith, omega arith, put_same v.mark kept s kept refl ∙ first_turn p w T l g)
               ];
             });
-            ahead = rw same (ahead-on (put v.mark kept s) (λ j f. put_other v.mark kept s j (λ q. omega arith)) (spliced K n x r) e a (λ c f g h. h) (λ p w T f. T));
+            ahead = rw same (ahead_on (put v.mark kept s) (λ j f. put_other v.mark kept s j (λ q. omega arith)) (spliced K n x r) e a (λ c f g h. h) (λ p w T f. T));
           }
         where
           below : (j : ℕ) → j < kept → v.mark j < s
@@ -238,13 +238,13 @@ module _ (K : Kind) (O : Lawful K) (n N : ℕ) (some : 0 < n) (x : Trace K) (A :
       unfolding z
       seen = run_bump K (suc N) n z s e R (omega arith) wide up down
 
-      pub the-bump : Bump K x (s - 1) n
+      pub the_bump : Bump K x (s - 1) n
       unfolding z
-      the-bump = bump-there K O n N x A o r M.clear (s - 1) (omega arith) seen
+      the_bump = bump_there K O n N x A o r M.clear (s - 1) (omega arith) seen
 
-      pub last-day : e < suc N
+      pub last_day : e < suc N
       unfolding z
-      last-day =
+      last_day =
           let w = turn_within K O (turned_lawful K O) N z (spliced_outside K O n N x o r) (s - 1) n (inl seen) in
           omega arith
 
@@ -258,20 +258,20 @@ module _ (K : Kind) (O : Lawful K) (n N : ℕ) (some : 0 < n) (x : Trace K) (A :
       pub none_before : (p : ℕ) → r ≤ p → p < s - 1 → Bump K x p n → ⊥
       none_before p h l B =
           let a = R.order in
-          let q = first-turn p n (inl (bump-seen K O n N x A o r M.clear p h B)) h (omega arith) in
+          let q = first_turn p n (inl (bump_seen K O n N x A o r M.clear p h B)) h (omega arith) in
           omega arith
 
       pub none_after : (p : ℕ) → s ≤ p → p < e' → Bump K x p n → ⊥
       none_after p h l B =
-          let C = bump-seen K O n N x A o r M.clear p (omega arith) B in
+          let C = bump_seen K O n N x A o r M.clear p (omega arith) B in
           elim (cases_lt p e) [
-            | inl g ↦ let q = first-turn p n (inl C) (omega arith) g in omega arith
+            | inl g ↦ let q = first_turn p n (inl C) (omega arith) g in omega arith
             | inr g ↦ elim right [
               | inl (q, Q) ↦
                   let T = turn_run K O (turned_lawful K O) N (spliced K n x r) (spliced_outside K O n N x o r) p n (inl C) in
-                  let a = run-same (suc N) (spliced K n x r) (suc e) e' (suc p) (p + n) Q T (let b = T.order in omega arith) l in
+                  let a = run_same (suc N) (spliced K n x r) (suc e) e' (suc p) (p + n) Q T (let b = T.order in omega arith) l in
                   let b : p ≡ e = let c = a.0 in omega arith in
-                  not-below K O _ _ (O.one_way _ _ (rw (sym (R.level e R.order (omega arith))) at down)) (rw b at C.rises)
+                  not_below K O _ _ (O.one_way _ _ (rw (sym (R.level e R.order (omega arith))) at down)) (rw b at C.rises)
               | inr (q, u) ↦ omega arith
             ]
           ]
@@ -281,36 +281,36 @@ module _ (K : Kind) (O : Lawful K) (n N : ℕ) (some : 0 < n) (x : Trace K) (A :
 
       there : (d : ℕ) → s - 1 ≤ d → z d ≡ x d
       unfolding z
-      there = bump-there-same K O n N x A o r M.clear (s - 1) (omega arith) seen
+      there = bump_there_same K O n N x A o r M.clear (s - 1) (omega arith) seen
 
-      y-before : (d : ℕ) → d < s → y d ≡ z d
+      y_before : (d : ℕ) → d < s → y d ≡ z d
       unfolding z y
-      y-before d h =
+      y_before d h =
           let a = R.order in
           let b = far in
           spliced_upto K n x e' d (omega arith) ∙ elim (cases_lt r d) [
-            | inl g ↦ kept-days K O n N x A o r M.clear (s - 1) none_before d g (omega arith) ∙ sym (spliced_past K n x r d g)
+            | inl g ↦ kept_days K O n N x A o r M.clear (s - 1) none_before d g (omega arith) ∙ sym (spliced_past K n x r d g)
             | inr g ↦ sym (spliced_upto K n x r d g)
           ]
 
-      y-on : (d : ℕ) → s ≤ d → d ≤ e → y d ≡ t
+      y_on : (d : ℕ) → s ≤ d → d ≤ e → y d ≡ t
       unfolding z y
-      y-on d h l =
+      y_on d h l =
           let b = far in
           let i : suc (s - 1 + n) ≡ suc e = omega arith in
           spliced_upto K n x e' d (omega arith) ∙
-          (L-levels K O n x (s - 1) d the-bump (omega arith) (omega arith) ∙
+          (L_levels K O n x (s - 1) d the_bump (omega arith) (omega arith) ∙
           (rw (i, ← there (s - 1) (omega arith), ← there (suc e) (omega arith)) (sym is)))
 
-      y-after : (d : ℕ) → e < d → y d ≡ z d
+      y_after : (d : ℕ) → e < d → y d ≡ z d
       unfolding z y
-      y-after d h = elim (cases_lt e' d) [
+      y_after d h = elim (cases_lt e' d) [
         | inl g ↦ let b = far in let a = R.order in spliced_past K n x e' d g ∙ sym (spliced_past K n x r d (omega arith))
         | inr g ↦ let a = R.order in spliced_upto K n x e' d g ∙ (stays g ∙ sym (spliced_past K n x r d (omega arith)))
       ]
         where
           stays : d ≤ e' → L K n x d ≡ x d
-          stays g = elim (kept-or-bump K O n x A d) [
+          stays g = elim (kept_or_bump K O n x A d) [
             | inl q ↦ q
             | inr (p, a, b, B) ↦ absurd (elim (cases_lt p r) [
               | inl c ↦ let f = R.order in let q = M.clear p B c in omega arith
@@ -320,33 +320,33 @@ module _ (K : Kind) (O : Lawful K) (n N : ℕ) (some : 0 < n) (x : Trace K) (A :
 
       made : Run (suc N) y s' e'
       unfolding z
-      made = new-run K O (suc N) z y s e s' e' t R (omega arith) last-day up down is y-before y-on y-after left right
+      made = new_run K O (suc N) z y s e s' e' t R (omega arith) last_day up down is y_before y_on y_after left right
 
-      all-t : (d : ℕ) → s' ≤ d → d ≤ e' → y d ≡ t
+      all_t : (d : ℕ) → s' ≤ d → d ≤ e' → y d ≡ t
       unfolding z
-      all-t = one-total K O (suc N) z y s e s' e' t R (omega arith) last-day up down is y-before y-on y-after left right
+      all_t = one_total K O (suc N) z y s e s' e' t R (omega arith) last_day up down is y_before y_on y_after left right
 
-      knows-y : Knows (suc N) (suc (suc N)) (with_run v s' e' t) y
+      knows_y : Knows (suc N) (suc (suc N)) (with_run v s' e' t) y
       unfolding z
-      knows-y =
+      knows_y =
           let a = made.order in
           let b = near in
           let c = far in
           let k = knows_again (suc N) v z y s' e' made
-          (begun K O (suc N) z y s e s' e' t R (omega arith) last-day up down is y-before y-on y-after left right)
-          (ended K O (suc N) z y s e s' e' t R (omega arith) last-day up down is y-before y-on y-after left right)
-          (λ d h. y-before d (omega arith)) (λ d h. y-after d (omega arith)) M.knows in
-          rw (all-t s' (omega arith) a) at k
+          (begun K O (suc N) z y s e s' e' t R (omega arith) last_day up down is y_before y_on y_after left right)
+          (ended K O (suc N) z y s e s' e' t R (omega arith) last_day up down is y_before y_on y_after left right)
+          (λ d h. y_before d (omega arith)) (λ d h. y_after d (omega arith)) M.knows in
+          rw (all_t s' (omega arith) a) at k
 
-      clear-y : Clear K n x e'
-      clear-y = elim right [
-        | inl (q, Q) ↦ let a = Q.order in let b = R.order in clear-end K O n N x A o r M.clear (suc e) e' Q (omega arith)
-        | inr (q, u) ↦ let b = R.order in clear-end K O n N x A o r M.clear s e' (rw u R) (omega arith)
+      clear_y : Clear K n x e'
+      clear_y = elim right [
+        | inl (q, Q) ↦ let a = Q.order in let b = R.order in clear_end K O n N x A o r M.clear (suc e) e' Q (omega arith)
+        | inr (q, u) ↦ let b = R.order in clear_end K O n N x A o r M.clear s e' (rw u R) (omega arith)
       ]
 
       -- the marks that were kept lie no later than the new run
-      not-later : (j : ℕ) → j < kept → v.mark j ≤ s'
-      not-later j h = elim (cases_lt s' (v.mark j)) [
+      not_later : (j : ℕ) → j < kept → v.mark j ≤ s'
+      not_later j h = elim (cases_lt s' (v.mark j)) [
         | inr l ↦ l
         | inl l ↦ absurd (
             let a = M.early.within j (omega arith) h (omega arith) in
@@ -356,67 +356,67 @@ module _ (K : Kind) (O : Lawful K) (n N : ℕ) (some : 0 < n) (x : Trace K) (A :
             ])
       ]
 
-      still-begins : (j : ℕ) → j < kept → 0 < v.mark j → y (v.mark j - 1) ≡ y (v.mark j) → ⊥
+      still_begins : (j : ℕ) → j < kept → 0 < v.mark j → y (v.mark j - 1) ≡ y (v.mark j) → ⊥
       unfolding z
-      still-begins j h l q =
+      still_begins j h l q =
           let a = M.early.within j (omega arith) h l in
-          M.early.begins j (omega arith) h l (sym (y-before (v.mark j - 1) (omega arith)) ∙ (q ∙ y-before (v.mark j) (omega arith)))
+          M.early.begins j (omega arith) h l (sym (y_before (v.mark j - 1) (omega arith)) ∙ (q ∙ y_before (v.mark j) (omega arith)))
 
-      early-turn : (p w : ℕ) → Turn K y p w → p < e' → (s' ≡ suc p) ⊎ ((j : ℕ) × (0 ≤ j) × (j < kept) × (v.mark j ≡ suc p))
+      early_turn : (p w : ℕ) → Turn K y p w → p < e' → (s' ≡ suc p) ⊎ ((j : ℕ) × (0 ≤ j) × (j < kept) × (v.mark j ≡ suc p))
       unfolding z y
-      early-turn p w T h =
+      early_turn p w T h =
           let Q = turn_run K O (turned_lawful K O) N y (spliced_outside K O n N x o e') p w T in
           let a = Q.order in
           let b = near in
           let c = R.order in
           elim (cases_lt (p + w) s') [
             | inl g ↦
-                let V = turn-before K O (suc N) z y s e s' e' t R (omega arith) last-day up down is y-before y-on y-after left right p w T g in
+                let V = turn_before K O (suc N) z y s e s' e' t R (omega arith) last_day up down is y_before y_on y_after left right p w T g in
                 elim (cases_lt p r) [
                   | inl l ↦ inr (M.early.turns p w V (omega arith) l)
-                  | inr l ↦ absurd (let q = first-turn p w V l (omega arith) in omega arith)
+                  | inr l ↦ absurd (let q = first_turn p w V l (omega arith) in omega arith)
                 ]
-            | inr g ↦ inl (run-same (suc N) y s' e' (suc p) (p + w) made Q g h).0
+            | inr g ↦ inl (run_same (suc N) y s' e' (suc p) (p + w) made Q g h).0
           ]
 
-      ahead-y : (mark : ℕ → ℕ) → ((j : ℕ) → i < j → mark j ≡ v.mark j) → Marks K y mark (suc i) hi e' (suc N)
+      ahead_y : (mark : ℕ → ℕ) → ((j : ℕ) → i < j → mark j ≡ v.mark j) → Marks K y mark (suc i) hi e' (suc N)
       unfolding z y
-      ahead-y mark like =
+      ahead_y mark like =
           let a = R.order in
           let b = far in
-          ahead-on mark like y e' (omega arith)
+          ahead_on mark like y e' (omega arith)
           (λ c f g h q. elim (cases_lt e' (c - 1)) [
-            | inl l ↦ h (sym (y-after (c - 1) (omega arith)) ∙ (q ∙ y-after c (omega arith)))
+            | inl l ↦ h (sym (y_after (c - 1) (omega arith)) ∙ (q ∙ y_after c (omega arith)))
             | inr l ↦ made.ends (omega arith) (ap y (let k : suc e' ≡ c = omega arith in k) ∙ (sym q ∙ ap y (let k : c - 1 ≡ e' = omega arith in k)))
           ])
-          (turn-after K O (suc N) z y s e s' e' t R (omega arith) last-day up down is y-before y-on y-after left right)
+          (turn_after K O (suc N) z y s e s' e' t R (omega arith) last_day up down is y_before y_on y_after left right)
 
-      levelled-with : (kept' : ℕ) (w : View (Of K)) → (w.total ≡ (with_run v s' e' t).total) → (w.other ≡ (with_run v s' e' t).other) → kept' ≤ suc i →
+      levelled_with : (kept' : ℕ) (w : View (Of K)) → (w.total ≡ (with_run v s' e' t).total) → (w.other ≡ (with_run v s' e' t).other) → kept' ≤ suc i →
           Marks K y w.mark 0 kept' 0 e' → ((j : ℕ) → i < j → w.mark j ≡ v.mark j) → Midway K n (suc N) x w (suc i) hi kept' e'
       unfolding z y
-      levelled-with kept' w a b h marks like =
+      levelled_with kept' w a b h marks like =
           record {
             reach = made.end;
-            clear = clear-y;
-            knows = rw (a, b) knows-y;
+            clear = clear_y;
+            knows = rw (a, b) knows_y;
             behind = h;
             early = marks;
-            ahead = ahead-y w.mark like;
+            ahead = ahead_y w.mark like;
           }
 
       -- its mark is there already, or it needs none
-      pub levelled-same : (s' ≡ 0) ⊎ ((0 < kept) × (v.mark (kept - 1) ≡ s')) → Midway K n (suc N) x (with_run v s' e' t) (suc i) hi kept e'
+      pub levelled_same : (s' ≡ 0) ⊎ ((0 < kept) × (v.mark (kept - 1) ≡ s')) → Midway K n (suc N) x (with_run v s' e' t) (suc i) hi kept e'
       unfolding y
-      levelled-same m =
+      levelled_same m =
           let a = R.order in
           let b = far in
           let c = M.behind in
-          levelled-with kept (with_run v s' e' t) refl refl (omega arith)
+          levelled_with kept (with_run v s' e' t) refl refl (omega arith)
           (record {
             rising = M.early.rising;
             within = λ j f g l. let k = M.early.within j f g l in omega arith;
-            begins = λ j f g. still-begins j g;
-            turns = λ p w T f g. elim (early-turn p w T g) [
+            begins = λ j f g. still_begins j g;
+            turns = λ p w T f g. elim (early_turn p w T g) [
               | inr j ↦ j
               | inl q ↦ elim m [ inl u ↦ absurd (omega arith) | inr (u, k) ↦ (kept - 1, omega arith, omega arith, k ∙ q) ]
             ];
@@ -424,13 +424,13 @@ module _ (K : Kind) (O : Lawful K) (n N : ℕ) (some : 0 < n) (x : Trace K) (A :
           (λ j f. refl)
 
       -- it gets a mark
-      pub levelled-marked : 0 < s' → (0 < kept → v.mark (kept - 1) ≡ s' → ⊥) → Midway K n (suc N) x (with_mark (with_run v s' e' t) kept s') (suc i) hi (suc kept) e'
+      pub levelled_marked : 0 < s' → (0 < kept → v.mark (kept - 1) ≡ s' → ⊥) → Midway K n (suc N) x (with_mark (with_run v s' e' t) kept s') (suc i) hi (suc kept) e'
       unfolding y
-      levelled-marked pos m =
+      levelled_marked pos m =
           let a = R.order in
           let b = far in
           let c = M.behind in
-          levelled-with (suc kept) (with_mark (with_run v s' e' t) kept s') refl refl (omega arith)
+          levelled_with (suc kept) (with_mark (with_run v s' e' t) kept s') refl refl (omega arith)
           (record {
             rising = λ j k f g l. elim (cases_lt k kept) [
               | inl h ↦ rw (put_other v.mark kept s' j (λ q. omega arith), put_other v.mark kept s' k (λ q. omega arith)) (M.early.rising j k f g h)
@@ -441,10 +441,10 @@ module _ (K : Kind) (O : Lawful K) (n N : ℕ) (some : 0 < n) (x : Trace K) (A :
               | inr h ↦ rw (put_same v.mark kept s' j (omega arith)) (λ l. made.order)
             ];
             begins = λ j f g. elim (cases_lt j kept) [
-              | inl h ↦ rw (put_other v.mark kept s' j (λ q. omega arith)) (still-begins j h)
+              | inl h ↦ rw (put_other v.mark kept s' j (λ q. omega arith)) (still_begins j h)
               | inr h ↦ rw (put_same v.mark kept s' j (omega arith)) made.begins
             ];
-            turns = λ p w T f g. elim (early-turn p w T g) [
+            turns = λ p w T f g. elim (early_turn p w T g) [
               | inr (j, k, l, q) ↦ (j, k, omega arith, put_other v.mark kept s' j (λ e. omega arith) ∙ q)
               | inl q ↦ (kept, omega arith, omega arith, put_same v.mark kept s' kept refl ∙ q)
             ];
@@ -453,8 +453,8 @@ module _ (K : Kind) (O : Lawful K) (n N : ℕ) (some : 0 < n) (x : Trace K) (A :
         where
           below : (j : ℕ) → j < kept → v.mark j < s'
           below j h =
-              let a = not-later j h in
-              let b = not-later (kept - 1) (omega arith) in
+              let a = not_later j h in
+              let b = not_later (kept - 1) (omega arith) in
               elim (cases_eq (v.mark (kept - 1)) s') [
                 | inl q ↦ absurd (m (omega arith) q)
                 | inr q ↦ elim (cases_lt j (kept - 1)) [

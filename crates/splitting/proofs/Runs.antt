@@ -17,8 +17,8 @@ module _ {X : Type 0} (m : ℕ) (x : ℕ → X) where
   not_beyond s e s' e' R R' h l = R.ends (let z = R'.end in omega arith) (R'.level (suc e) (omega arith) (omega arith) ∙ sym (R'.level e l (omega arith)))
 
   -- so they are the same run
-  pub run-same : (s e s' e' : ℕ) → Run m x s e → Run m x s' e' → s ≤ e' → s' ≤ e → (s ≡ s') × (e ≡ e')
-  run-same s e s' e' R R' h l = (
+  pub run_same : (s e s' e' : ℕ) → Run m x s e → Run m x s' e' → s ≤ e' → s' ≤ e → (s ≡ s') × (e ≡ e')
+  run_same s e s' e' R R' h l = (
     elim (cases_order s s') [
       | inl q ↦ q
       | inr (inl q) ↦ absurd (not_within s e s' e' R R' q l)
@@ -43,8 +43,8 @@ module _ (K : Kind) (O : Lawful K) (m : ℕ) (x : Trace K) where
   ]
 
   -- a run begins on each day that differs from the day before, and ends on each that differs from the day after
-  pub run-from : (s : ℕ) → s ≤ m → (0 < s → x (s - 1) ≡ x s → ⊥) → (e : ℕ) × Run m x s e
-  run-from s h b = grow (m - s) s (omega arith) (omega arith) (λ d f l. ap x (omega arith))
+  pub run_from : (s : ℕ) → s ≤ m → (0 < s → x (s - 1) ≡ x s → ⊥) → (e : ℕ) × Run m x s e
+  run_from s h b = grow (m - s) s (omega arith) (omega arith) (λ d f l. ap x (omega arith))
     where
       grow : (n e : ℕ) → e + n ≡ m → s ≤ e → ((d : ℕ) → s ≤ d → d ≤ e → x d ≡ x s) → (e : ℕ) × Run m x s e
       grow zero e q l f = (e, record { order = l; end = omega arith; level = f; begins = b; ends = λ g. absurd (omega arith) })
@@ -56,8 +56,8 @@ module _ (K : Kind) (O : Lawful K) (m : ℕ) (x : Trace K) where
         | inr a ↦ (e, record { order = l; end = omega arith; level = f; begins = b; ends = λ g. a })
       ]
 
-  pub run-to : (e : ℕ) → e ≤ m → (e < m → x (suc e) ≡ x e → ⊥) → (s : ℕ) × Run m x s e
-  run-to e h b = grow e (omega arith) (λ d f l. ap x (omega arith))
+  pub run_to : (e : ℕ) → e ≤ m → (e < m → x (suc e) ≡ x e → ⊥) → (s : ℕ) × Run m x s e
+  run_to e h b = grow e (omega arith) (λ d f l. ap x (omega arith))
     where
       made : (s : ℕ) → s ≤ e → ((d : ℕ) → s ≤ d → d ≤ e → x d ≡ x e) → (0 < s → x (s - 1) ≡ x s → ⊥) → (s : ℕ) × Run m x s e
       made s l f g = (s, record { order = l; end = h; level = λ d j k. f d j k ∙ sym (f s (omega arith) l); begins = g; ends = b })
@@ -74,8 +74,8 @@ module _ (K : Kind) (O : Lawful K) (m : ℕ) (x : Trace K) where
 
 -- what is known once a run is written
 module _ {X : Type 0} (v : View X) (s e : ℕ) (t : X) where
-  pub run-written : Shows (with_run v s e t).total (with_run v s e t).other s e t × Shows (with_run v s e t).total (with_run v s e t).other e s t
-  run-written = (
+  pub run_written : Shows (with_run v s e t).total (with_run v s e t).other s e t × Shows (with_run v s e t).total (with_run v s e t).other e s t
+  run_written = (
     record {
       holds = elim (cases_eq s e) [ inl q ↦ put_same _ e t s q | inr q ↦ put_other _ e t s q ∙ put_same _ s t s refl ];
       joins = elim (cases_eq s e) [ inl q ↦ put_same _ e s s q ∙ q | inr q ↦ put_other _ e s s q ∙ put_same _ s e s refl ];
@@ -83,8 +83,8 @@ module _ {X : Type 0} (v : View X) (s e : ℕ) (t : X) where
     record { holds = put_same _ e t e refl; joins = put_same _ e s e refl },
   )
 
-  pub still-shown : (d o : ℕ) (u : X) → (d ≡ s → ⊥) → (d ≡ e → ⊥) → Shows v.total v.other d o u → Shows (with_run v s e t).total (with_run v s e t).other d o u
-  still-shown d o u h l S =
+  pub still_shown : (d o : ℕ) (u : X) → (d ≡ s → ⊥) → (d ≡ e → ⊥) → Shows v.total v.other d o u → Shows (with_run v s e t).total (with_run v s e t).other d o u
+  still_shown d o u h l S =
       record {
         holds = put_other _ e t d l ∙ (put_other _ s t d h ∙ S.holds);
         joins = put_other _ e s d l ∙ (put_other _ s e d h ∙ S.joins);
@@ -96,20 +96,20 @@ knows_more m v x s e k R a b R' l = elim (cases_lt b s) [
   | inl h ↦
       let q = R'.order in
       let p = R.order in (
-        still-shown v s e (x s) a b (x a) (λ z. omega arith) (λ z. omega arith) (k a b R' h).0,
-        still-shown v s e (x s) b a (x a) (λ z. omega arith) (λ z. omega arith) (k a b R' h).1,
+        still_shown v s e (x s) a b (x a) (λ z. omega arith) (λ z. omega arith) (k a b R' h).0,
+        still_shown v s e (x s) b a (x a) (λ z. omega arith) (λ z. omega arith) (k a b R' h).1,
       )
   | inr h ↦
-      let w = run-same m x a b s e R' R (let q = R'.order in omega arith) h in
-      rw (w.0, w.1) (run-written v s e (x s))
+      let w = run_same m x a b s e R' R (let q = R'.order in omega arith) h in
+      rw (w.0, w.1) (run_written v s e (x s))
 ]
 
 -- The trace y is x with one total on the days from s to e, where runs of x begin and end: what was
 -- known of x is known of y once the run is written.
 module _ {X : Type 0} (m : ℕ) (v : View X) (x y : ℕ → X) (s e : ℕ) (R : Run m y s e) (xb : 0 < s → x (s - 1) ≡ x s → ⊥) (xe : e < m → x (suc e) ≡ x e → ⊥)
     (before : (d : ℕ) → d < s → y d ≡ x d) (after : (d : ℕ) → e < d → y d ≡ x d) (k : Knows m (suc m) v x) where
-  run-before : (a b : ℕ) → Run m y a b → b < s → Run m x a b
-  run-before a b Q h =
+  run_before : (a b : ℕ) → Run m y a b → b < s → Run m x a b
+  run_before a b Q h =
       record {
         order = Q.order;
         end = Q.end;
@@ -121,8 +121,8 @@ module _ {X : Type 0} (m : ℕ) (v : View X) (x y : ℕ → X) (s e : ℕ) (R : 
         ];
       }
 
-  run-after : (a b : ℕ) → Run m y a b → e < a → Run m x a b
-  run-after a b Q h =
+  run_after : (a b : ℕ) → Run m y a b → e < a → Run m x a b
+  run_after a b Q h =
       let o = Q.order in
       record {
         order = Q.order;
@@ -141,18 +141,18 @@ module _ {X : Type 0} (m : ℕ) (v : View X) (x y : ℕ → X) (s e : ℕ) (R : 
       let w = R.order in
       elim (cases_lt b s) [
         | inl h ↦
-            let K = k a b (run-before a b Q h) l in (
-              still-shown v s e (y s) a b (y a) (λ z. omega arith) (λ z. omega arith) (rw (before a (omega arith)) K.0),
-              still-shown v s e (y s) b a (y a) (λ z. omega arith) (λ z. omega arith) (rw (before a (omega arith)) K.1),
+            let K = k a b (run_before a b Q h) l in (
+              still_shown v s e (y s) a b (y a) (λ z. omega arith) (λ z. omega arith) (rw (before a (omega arith)) K.0),
+              still_shown v s e (y s) b a (y a) (λ z. omega arith) (λ z. omega arith) (rw (before a (omega arith)) K.1),
             )
         | inr h ↦ elim (cases_lt e a) [
           | inl g ↦
-              let K = k a b (run-after a b Q g) l in (
-                still-shown v s e (y s) a b (y a) (λ z. omega arith) (λ z. omega arith) (rw (after a g) K.0),
-                still-shown v s e (y s) b a (y a) (λ z. omega arith) (λ z. omega arith) (rw (after a g) K.1),
+              let K = k a b (run_after a b Q g) l in (
+                still_shown v s e (y s) a b (y a) (λ z. omega arith) (λ z. omega arith) (rw (after a g) K.0),
+                still_shown v s e (y s) b a (y a) (λ z. omega arith) (λ z. omega arith) (rw (after a g) K.1),
               )
           | inr g ↦
-              let z = run-same m y a b s e Q R g h in
-              rw (z.0, z.1) (run-written v s e (y s))
+              let z = run_same m y a b s e Q R g h in
+              rw (z.0, z.1) (run_written v s e (y s))
         ]
       ]

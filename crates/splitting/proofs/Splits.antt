@@ -10,11 +10,11 @@ use Rattle.transform.specs.Windows.{Record, Trace, trace, lowered, smooth}
 use Rattle.transform.specs.Pulses.{Pulse, in_turn, upward, downward, pulses}
 use Rattle.transform.specs.Theory.{turned, Bump}
 use Rattle.transform.proofs.Order.{turned_lawful}
-use Rattle.transform.proofs.Smooths.{trace_outside, apart_flat, length-smooth, length-lowered, smooth-outside}
-use Rattle.transform.proofs.Runs.{apart-bumps}
-use Rattle.transform.proofs.Stages.{stage, upward-pass, downward-pass}
-use Rattle.transform.proofs.Endings.{in_turn_front, smooth-among, lowered-among, pulses-upto}
-use Rattle.transform.proofs.Counts.{pulses-few}
+use Rattle.transform.proofs.Smooths.{trace_outside, apart_flat, length_smooth, length_lowered, smooth_outside}
+use Rattle.transform.proofs.Runs.{apart_bumps}
+use Rattle.transform.proofs.Stages.{stage, upward_pass, downward_pass}
+use Rattle.transform.proofs.Endings.{in_turn_front, smooth_among, lowered_among, pulses_upto}
+use Rattle.transform.proofs.Counts.{pulses_few}
 use Rattle.splitting.specs.Records.{BarredDay, row_of, laid}
 use Rattle.splitting.specs.Work.{View}
 use Rattle.splitting.specs.Runs.{Knows, Turn, Marks}
@@ -63,43 +63,43 @@ so_far_none K xs days v marks slots k m f = record { knows = k; marked = m; few 
 
 module _ (K : Kind) (O : Lawful K) (xs : Record K) (days : ℕ) (size : length xs ≡ days) where
   -- the rows so far are no more than the days
-  upto-few : (n : ℕ) → n ≤ length xs → length (in_turn n (stage K xs)) ≤ length xs
+  upto_few : (n : ℕ) → n ≤ length xs → length (in_turn n (stage K xs)) ≤ length xs
   unfolding pulses
-  upto-few n h =
+  upto_few n h =
       let f = in_turn_front (stage K xs) n (length xs - n) in
       let e : n + (length xs - n) ≡ length xs = omega arith in
       let q = ap length (rw e at f.1) in
-      let k = pulses-few K O xs in
+      let k = pulses_few K O xs in
       omega (arith, simp length-append at q)
 
-  in-turn-next : (n : ℕ) → in_turn (suc n) (stage K xs) ≡ in_turn n (stage K xs) ++ (upward K xs (suc n) ++ downward K xs (suc n))
+  in_turn_next : (n : ℕ) → in_turn (suc n) (stage K xs) ≡ in_turn n (stage K xs) ++ (upward K xs (suc n) ++ downward K xs (suc n))
   unfolding in_turn
-  in-turn-next n = refl
+  in_turn_next n = refl
 
   module _ (n : ℕ) (v : View (Of K)) (marks rows : ℕ) (base s : List (Option Entry)) (F : SoFar K xs days n v marks rows base s) where
     -- all widths are done
     pub split_done : n ≡ days → length xs ≤ length base → (rows ≡ length (pulses K xs)) × (s ≡ laid (pulses K xs) base)
     unfolding pulses
     split_done e h =
-        let k = pulses-few K O xs in
+        let k = pulses_few K O xs in
         let q : in_turn n (stage K xs) ≡ pulses K xs = ap (λ i. in_turn i (stage K xs)) (let f : n ≡ length xs = omega arith in f) in
         (F.count ∙ ap length q, F.put ∙ (ap (λ l. put_rows 0 l base) q ∙ put_rows_laid (pulses K xs) base (omega arith)))
 
     -- no mark is left: the smooth is zero, and there are no more pulses
-    no-turn : marks ≡ 0 → (p w : ℕ) → Turn K (trace K (smooth K n xs)) p w → ⊥
-    no-turn e p w T =
-        let l = turn_within K O (turned_lawful K O) (length xs) (trace K (smooth K n xs)) (smooth-outside K O n xs) p w T in
+    no_turn : marks ≡ 0 → (p w : ℕ) → Turn K (trace K (smooth K n xs)) p w → ⊥
+    no_turn e p w T =
+        let l = turn_within K O (turned_lawful K O) (length xs) (trace K (smooth K n xs)) (smooth_outside K O n xs) p w T in
         let j = F.marked.turns p w T (omega arith) (omega arith) in
         let a = j.2 in
         omega arith
 
-    pub split-flat : marks ≡ 0 → n ≤ days → length xs ≤ length base → (rows ≡ length (pulses K xs)) × (s ≡ laid (pulses K xs) base)
-    split-flat e l h =
-        let k = pulses-few K O xs in
-        let z = apart_flat K O (length xs) (trace K (smooth K n xs)) (smooth-outside K O n xs)
-        (apart-bumps K O (trace K (smooth K n xs)) (suc (length xs)) (λ p w g B. no-turn e p w (inl B)))
-        (apart-bumps (turned K) (turned_lawful K O) (trace K (smooth K n xs)) (suc (length xs)) (λ p w g B. no-turn e p w (inr B))) in
-        let q : in_turn n (stage K xs) ≡ pulses K xs = sym (pulses-upto K O xs n (omega arith) z) in
+    pub split_flat : marks ≡ 0 → n ≤ days → length xs ≤ length base → (rows ≡ length (pulses K xs)) × (s ≡ laid (pulses K xs) base)
+    split_flat e l h =
+        let k = pulses_few K O xs in
+        let z = apart_flat K O (length xs) (trace K (smooth K n xs)) (smooth_outside K O n xs)
+        (apart_bumps K O (trace K (smooth K n xs)) (suc (length xs)) (λ p w g B. no_turn e p w (inl B)))
+        (apart_bumps (turned K) (turned_lawful K O) (trace K (smooth K n xs)) (suc (length xs)) (λ p w g B. no_turn e p w (inr B))) in
+        let q : in_turn n (stage K xs) ≡ pulses K xs = sym (pulses_upto K O xs n (omega arith) z) in
         (F.count ∙ ap length q, F.put ∙ (ap (λ l. put_rows 0 l base) q ∙ put_rows_laid (pulses K xs) base (omega arith)))
 
     -- the two passes of the next width
@@ -115,35 +115,35 @@ module _ (K : Kind) (O : Lawful K) (xs : Record K) (days : ℕ) (size : length x
 
       pub ready_up : Ready K false (suc n) days v marks (smooth K n xs) (lowered K (suc n) (smooth K n xs))
       ready_up =
-          let p = upward-pass K O xs n in
+          let p = upward_pass K O xs n in
           record {
-            size = length-smooth K O n xs ∙ size;
-            stage = record { some = p.some; apart = p.apart; levels = p.levels; entered = smooth-among K O (λ a. within K.arity K.bound a ≡ true) xs entered n };
+            size = length_smooth K O n xs ∙ size;
+            stage = record { some = p.some; apart = p.apart; levels = p.levels; entered = smooth_among K O (λ a. within K.arity K.bound a ≡ true) xs entered n };
             knows = F.knows;
             marked = F.marked;
             few = F.few;
           }
 
-      pub rows-up : rows ≤ days
-      rows-up = let a = upto-few n (omega arith) in let c = F.count in omega arith
+      pub rows_up : rows ≤ days
+      rows_up = let a = upto_few n (omega arith) in let c = F.count in omega arith
 
       module _ (u : View (Of K)) (kept rows' : ℕ) (s' : List (Option Entry)) (W : Swept K false days u kept (smooth K n xs) (lowered K (suc n) (smooth K n xs)) rows rows' s s') where
-        pub ready-down : Ready K true (suc n) days u kept (lowered K (suc n) (smooth K n xs)) (smooth K (suc n) xs)
-        ready-down =
-            let p = downward-pass K O xs n in
+        pub ready_down : Ready K true (suc n) days u kept (lowered K (suc n) (smooth K n xs)) (smooth K (suc n) xs)
+        ready_down =
+            let p = downward_pass K O xs n in
             record {
-              size = length-lowered K O (suc n) (smooth K n xs) ∙ (length-smooth K O n xs ∙ size);
-              stage = record { some = p.some; apart = p.apart; levels = p.levels; entered = lowered-among K O (λ a. within K.arity K.bound a ≡ true) xs entered n };
+              size = length_lowered K O (suc n) (smooth K n xs) ∙ (length_smooth K O n xs ∙ size);
+              stage = record { some = p.some; apart = p.apart; levels = p.levels; entered = lowered_among K O (λ a. within K.arity K.bound a ≡ true) xs entered n };
               knows = W.knows;
               marked = marks_turned K _ _ _ _ _ _ W.marked;
               few = W.few;
             }
 
-        pub rows-down : rows' ≤ days
+        pub rows_down : rows' ≤ days
         unfolding upward
-        rows-down =
-            let a = upto-few (suc n) (omega arith) in
-            let q = ap length (in-turn-next n) in
+        rows_down =
+            let a = upto_few (suc n) (omega arith) in
+            let q = ap length (in_turn_next n) in
             let b = F.count in
             let c = W.count in
             omega (arith, simp length-append at q)
@@ -164,6 +164,6 @@ module _ (K : Kind) (O : Lawful K) (xs : Record K) (days : ℕ) (size : length x
               knows = X.knows;
               marked = marks_turned (turned K) _ _ _ _ _ _ X.marked;
               few = X.few;
-              count = simp (in-turn-next n, length-append) (omega arith);
-              put = X.put ∙ (width ∙ (all ∙ ap (λ l. put_rows 0 l base) (sym (in-turn-next n))));
+              count = simp (in_turn_next n, length-append) (omega arith);
+              put = X.put ∙ (width ∙ (all ∙ ap (λ l. put_rows 0 l base) (sym (in_turn_next n))));
             }

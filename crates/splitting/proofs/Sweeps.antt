@@ -8,7 +8,7 @@ use Rattle.transform.specs.Windows.{Record, Trace, trace, L}
 use Rattle.transform.specs.Pulses.{Pulse, in_turn, change, changes}
 use Rattle.transform.specs.Theory.{Bump}
 use Rattle.transform.proofs.Smooths.{Outside}
-use Rattle.transform.proofs.Passes.{clear-start, pass-start}
+use Rattle.transform.proofs.Passes.{clear_start, pass_start}
 use Rattle.transform.proofs.Listing.{change_is, bump_within}
 use Rattle.splitting.specs.Records.{row_of}
 use Rattle.splitting.specs.Work.{View}
@@ -16,7 +16,7 @@ use Rattle.splitting.specs.Runs.{Knows, Marks}
 use Rattle.splitting.specs.Passes.{aimed, spliced, Midway, Ready, put_rows, Added}
 use Rattle.splitting.proofs.Aims.{aimed_lawful}
 use Rattle.splitting.proofs.Splices.{spliced_pass}
-use Rattle.splitting.proofs.Passes.{in_turn_none, pass-ends}
+use Rattle.splitting.proofs.Passes.{in_turn_none, pass_ends}
 use Rattle.splitting.proofs.Visits.{stage_outside, stage_pass}
 
 -- rows put, and then more rows
@@ -54,13 +54,13 @@ module _ (K : Kind) (O : Lawful K) (down : Bool) (n days : ℕ) (v : View (Of K)
   out = stage_outside K down days b R.size
 
   start : spliced J n (trace K b) 0 ≡ trace K b
-  start = spliced_pass J n (trace K b) 0 ∙ pass-start J P n (trace K b)
+  start = spliced_pass J n (trace K b) 0 ∙ pass_start J P n (trace K b)
 
-  pub ready-midway : Midway (aimed K down) n (suc days) (trace K b) v 0 marks 0 0
-  ready-midway =
+  pub ready_midway : Midway (aimed K down) n (suc days) (trace K b) v 0 marks 0 0
+  ready_midway =
       record {
         reach = omega arith;
-        clear = clear-start J P n (trace K b);
+        clear = clear_start J P n (trace K b);
         knows = rw start R.knows;
         behind = omega arith;
         early = record {
@@ -74,16 +74,16 @@ module _ (K : Kind) (O : Lawful K) (down : Bool) (n days : ℕ) (v : View (Of K)
 
   module _ (w : View (Of K)) (i kept r : ℕ) (M : Midway (aimed K down) n (suc days) (trace K b) w i marks kept r) (last : marks ≤ i) where
     E : (spliced J n (trace K b) r ≡ L J n (trace K b)) × Marks J (spliced J n (trace K b) r) w.mark 0 kept 0 (suc days) × ((c : ℕ) → r ≤ c → Bump J (trace K b) c n → ⊥)
-    E = pass-ends J P n days R.stage.some (trace K b) R.stage.apart out w i marks kept r M last
+    E = pass_ends J P n days R.stage.some (trace K b) R.stage.apart out w i marks kept r M last
 
     all : spliced J n (trace K b) r ≡ trace K a
     all = E.0 ∙ sym R.stage.levels
 
-    pub done-knows : Knows (suc days) (suc (suc days)) w (trace K a)
-    done-knows = rw all at M.knows
+    pub done_knows : Knows (suc days) (suc (suc days)) w (trace K a)
+    done_knows = rw all at M.knows
 
-    pub done-marks : Marks (aimed K down) (trace K a) w.mark 0 kept 0 (suc days)
-    done-marks = rw all at E.1
+    pub done_marks : Marks (aimed K down) (trace K a) w.mark 0 kept 0 (suc days)
+    done_marks = rw all at E.1
 
     unlisted : (c : ℕ) → (Bump J (trace K b) c n → ⊥) → change K b a (suc c) ≡ []
     unlisted c none = elim (change_is K O (aimed K down).below n b a (stage_pass K O down n b a R.stage) c) [
@@ -91,9 +91,9 @@ module _ (K : Kind) (O : Lawful K) (down : Bool) (n days : ℕ) (v : View (Of K)
       | inr (f, q) ↦ q
     ]
 
-    pub done-list : in_turn r (change K b a) ≡ changes K b a
+    pub done_list : in_turn r (change K b a) ≡ changes K b a
     unfolding changes
-    done-list = elim (cases_lt (length b) r) [
+    done_list = elim (cases_lt (length b) r) [
       | inl h ↦ in_turn_none (change K b a) (length b) r (omega arith) (λ c f g. unlisted c (λ B.
           let w = bump_within K O (aimed K down).below n b a (stage_pass K O down n b a R.stage) c B in
           let s = R.stage.some in

@@ -35,18 +35,18 @@ module _ {V : Type 0} (K : Kind) (columns : V → Of K) (work : List (WorkEntry 
   unfolding view
   total_is = get_or-map (λ e. columns e.total) work k x _ h
 
-  pub other-is : (view K columns work).other k ≡ (get_or work k x).other
+  pub other_is : (view K columns work).other k ≡ (get_or work k x).other
   unfolding view
-  other-is = get_or-map (λ e. e.other) work k x _ h
+  other_is = get_or-map (λ e. e.other) work k x _ h
 
-  pub mark-is : (view K columns work).mark k ≡ (get_or work k x).mark
+  pub mark_is : (view K columns work).mark k ≡ (get_or work k x).mark
   unfolding view
-  mark-is = get_or-map (λ e. e.mark) work k x _ h
+  mark_is = get_or-map (λ e. e.mark) work k x _ h
 
-  pub end-written : (total : V) (other : ℕ) →
+  pub end_written : (total : V) (other : ℕ) →
       view K columns (set work k (record { total = total; other = other; mark = (get_or work k x).mark })) ≡ with_end (view K columns work) k other (columns total)
   unfolding view
-  end-written total other =
+  end_written total other =
       let v : WorkEntry V = record { total = total; other = other; mark = (get_or work k x).mark } in
       λ i. record {
         total = written (λ e. columns e.total) work k v (nought K.arity) h i;
@@ -54,10 +54,10 @@ module _ {V : Type 0} (K : Kind) (columns : V → Of K) (work : List (WorkEntry 
         mark = kept (λ e. e.mark) work k v 0 h x refl i;
       }
 
-  pub mark-written : (first : ℕ) → x ≡ get_or work k x →
+  pub mark_written : (first : ℕ) → x ≡ get_or work k x →
       view K columns (set work k (record { total = x.total; other = x.other; mark = first })) ≡ with_mark (view K columns work) k first
   unfolding view
-  mark-written first is =
+  mark_written first is =
       let v : WorkEntry V = record { total = x.total; other = x.other; mark = first } in
       λ i. record {
         total = kept (λ e. columns e.total) work k v (nought K.arity) h x (ap (λ (e : WorkEntry V). columns e.total) is) i;

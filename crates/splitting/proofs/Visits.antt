@@ -15,9 +15,9 @@ use Rattle.splitting.specs.Work.{View, with_mark, with_run}
 use Rattle.splitting.specs.Runs.{Run, Knows, Turn, Marks}
 use Rattle.splitting.specs.Passes.{aimed, spliced, Stage, Midway, Visiting, FateOf, nearest, Joins, Relaid, Marked, bump_pulse}
 use Rattle.splitting.proofs.Aims.{aimed_lawful}
-use Rattle.splitting.proofs.Runs.{run-same, same_or_not}
-use Rattle.splitting.proofs.Splices.{spliced_upto, spliced_past, spliced_outside, turn_within, turn_run, bump-there-same}
-use Rattle.splitting.proofs.Passes.{known-left, known-right, run_bump, in_turn_none, in_turn_one, marked-run, run-dropped, run-kept, no-bump, the-bump, last-day, none_before, none_after, levelled-same, levelled-marked}
+use Rattle.splitting.proofs.Runs.{run_same, same_or_not}
+use Rattle.splitting.proofs.Splices.{spliced_upto, spliced_past, spliced_outside, turn_within, turn_run, bump_there_same}
+use Rattle.splitting.proofs.Passes.{known_left, known_right, run_bump, in_turn_none, in_turn_one, marked_run, run_dropped, run_kept, no_bump, the_bump, last_day, none_before, none_after, levelled_same, levelled_marked}
 
 pub stage_outside : (K : Kind) (down : Bool) (days : ℕ) (b : Record K) → length b ≡ days → Outside (aimed K down) days (trace K b)
 stage_outside K down days b q = rw q at (trace_outside K b)
@@ -51,37 +51,37 @@ module _ (K : Kind) (O : Lawful K) (down : Bool) (n days : ℕ) (v : View (Of K)
   found : (v.total s ≡ z s) × Run (suc days) z s e
   found =
       let h : r < v.mark i = let p = V.past in let m = V.marked in omega arith in
-      rw V.marked at (marked-run J P n days V.stage.some (trace K b) V.stage.apart out v i hi kept r V.mid V.here h)
+      rw V.marked at (marked_run J P n days V.stage.some (trace K b) V.stage.apart out v i hi kept r V.mid V.here h)
 
-  pub visit-starts : 0 < s
-  visit-starts = let p = V.past in omega arith
+  pub visit_starts : 0 < s
+  visit_starts = let p = V.past in omega arith
 
-  pub visit-order : s ≤ v.other s
-  visit-order = found.1.order
+  pub visit_order : s ≤ v.other s
+  visit_order = found.1.order
 
-  pub visit-end : v.other s ≤ suc days
-  visit-end = found.1.end
+  pub visit_end : v.other s ≤ suc days
+  visit_end = found.1.end
 
   beside : (v.total (s - 1) ≡ z (s - 1)) × Run (suc days) z (v.other (s - 1)) (s - 1)
-  beside = known-left J P (suc days) z v V.mid.knows s e found.1 visit-starts
+  beside = known_left J P (suc days) z v V.mid.knows s e found.1 visit_starts
 
   behind : e ≤ days → (v.total (e + 1) ≡ z (suc e)) × Run (suc days) z (suc e) (v.other (e + 1))
-  behind h = rw (let q : e + 1 ≡ suc e = omega arith in q) (known-right J P (suc days) z v V.mid.knows s e found.1 (omega arith))
+  behind h = rw (let q : e + 1 ≡ suc e = omega arith in q) (known_right J P (suc days) z v V.mid.knows s e found.1 (omega arith))
 
-  pub other-left : v.other (s - 1) ≤ s - 1
-  other-left = beside.1.order
+  pub other_left : v.other (s - 1) ≤ s - 1
+  other_left = beside.1.order
 
-  pub other-right : v.other s ≤ days → v.other (v.other s + 1) ≤ suc days
-  other-right h = (behind h).1.end
+  pub other_right : v.other s ≤ days → v.other (v.other s + 1) ≤ suc days
+  other_right h = (behind h).1.end
 
   pub entered_here : within K.arity K.bound (v.total s) ≡ true
   entered_here = rw found.0 (entered_midway K O down n b a V.stage r s)
 
-  pub entered-left : within K.arity K.bound (v.total (s - 1)) ≡ true
-  entered-left = rw beside.0 (entered_midway K O down n b a V.stage r (s - 1))
+  pub entered_left : within K.arity K.bound (v.total (s - 1)) ≡ true
+  entered_left = rw beside.0 (entered_midway K O down n b a V.stage r (s - 1))
 
-  pub entered-right : v.other s ≤ days → within K.arity K.bound (v.total (v.other s + 1)) ≡ true
-  entered-right h = rw (behind h).0 (entered_midway K O down n b a V.stage r (suc (v.other s)))
+  pub entered_right : v.other s ≤ days → within K.arity K.bound (v.total (v.other s + 1)) ≡ true
+  entered_right h = rw (behind h).0 (entered_midway K O down n b a V.stage r (suc (v.other s)))
 
   -- no pulse is listed for days on which no bump begins
   unlisted : (c : ℕ) → (Bump J (trace K b) c n → ⊥) → change K b a (suc c) ≡ []
@@ -90,31 +90,31 @@ module _ (K : Kind) (O : Lawful K) (down : Bool) (n days : ℕ) (v : View (Of K)
     | inr (f, q) ↦ q
   ]
 
-  none-listed : ((p : ℕ) → r ≤ p → p < e → Bump J (trace K b) p n → ⊥) → in_turn e (change K b a) ≡ in_turn r (change K b a)
-  none-listed none = in_turn_none (change K b a) r e (let f = found.1.order in let g = V.past in omega arith) (λ c h l. unlisted c (none c h l))
+  none_listed : ((p : ℕ) → r ≤ p → p < e → Bump J (trace K b) p n → ⊥) → in_turn e (change K b a) ≡ in_turn r (change K b a)
+  none_listed none = in_turn_none (change K b a) r e (let f = found.1.order in let g = V.past in omega arith) (λ c h l. unlisted c (none c h l))
 
   -- what the tests say of a bump or a pit that begins on the mark's day
   placed : (w : ℕ) → Turn J z (s - 1) w → (e ≤ days) × (suc e ≡ s + w)
   placed w T =
-      let f = visit-starts in
+      let f = visit_starts in
       let W = turn_within J P (turned_lawful J P) days z (spliced_outside J P n days (trace K b) out r) (s - 1) w T in
       let Q = turn_run J P (turned_lawful J P) days z (spliced_outside J P n days (trace K b) out r) (s - 1) w T in
       let g = Q.order in
       let k = found.1.order in
-      let q = (run-same (suc days) z s e (suc (s - 1)) (s - 1 + w) found.1 Q (omega arith) (omega arith)).1 in
+      let q = (run_same (suc days) z s e (suc (s - 1)) (s - 1 + w) found.1 Q (omega arith) (omega arith)).1 in
       (omega arith, omega arith)
 
-  tested-bump : (w : ℕ) → Bump J z (s - 1) w → Below J (v.total (s - 1)) (v.total s) × Below J (v.total (e + 1)) (v.total s)
-  tested-bump w B =
-      let f = visit-starts in
+  tested_bump : (w : ℕ) → Bump J z (s - 1) w → Below J (v.total (s - 1)) (v.total s) × Below J (v.total (e + 1)) (v.total s)
+  tested_bump w B =
+      let f = visit_starts in
       let p = placed w (inl B) in
       let i1 : suc (s - 1) ≡ s = omega arith in
       let i2 : suc (s - 1 + w) ≡ suc e = let q = p.1 in omega arith in
       rw (beside.0, found.0, (behind p.0).0) (rw i1 at B.rises, rw (i2, i1) at B.falls)
 
-  tested-pit : (w : ℕ) → Bump (turned J) z (s - 1) w → Below J (v.total s) (v.total (s - 1)) × Below J (v.total s) (v.total (e + 1))
-  tested-pit w B =
-      let f = visit-starts in
+  tested_pit : (w : ℕ) → Bump (turned J) z (s - 1) w → Below J (v.total s) (v.total (s - 1)) × Below J (v.total s) (v.total (e + 1))
+  tested_pit w B =
+      let f = visit_starts in
       let p = placed w (inr B) in
       let i1 : suc (s - 1) ≡ s = omega arith in
       let i2 : suc (s - 1 + w) ≡ suc e = let q = p.1 in omega arith in
@@ -122,29 +122,29 @@ module _ (K : Kind) (O : Lawful K) (down : Bool) (n days : ℕ) (v : View (Of K)
 
   -- the mark is dropped
   module _ (F : FateOf (aimed K down) days n s (v.other s) (v.total (s - 1)) (v.total s) (v.total (v.other s + 1)) Dropped) where
-    no-turn : (w : ℕ) → Turn J z (s - 1) w → ⊥
-    no-turn w (inl B) = let t = tested-bump w B in (F (placed w (inl B)).0).0 t.0 t.1
-    no-turn w (inr B) = let t = tested-pit w B in (F (placed w (inr B)).0).1 t.0 t.1
+    no_turn : (w : ℕ) → Turn J z (s - 1) w → ⊥
+    no_turn w (inl B) = let t = tested_bump w B in (F (placed w (inl B)).0).0 t.0 t.1
+    no_turn w (inr B) = let t = tested_pit w B in (F (placed w (inr B)).0).1 t.0 t.1
 
-    pub visit-dropped : Midway (aimed K down) n (suc days) (trace K b) v (suc i) hi kept (v.other s)
-    visit-dropped =
-        run-dropped J P n days V.stage.some (trace K b) V.stage.apart out v i hi kept r V.mid s e V.here V.marked V.past found.1
-        (λ B. no-turn n (inl B)) no-turn
+    pub visit_dropped : Midway (aimed K down) n (suc days) (trace K b) v (suc i) hi kept (v.other s)
+    visit_dropped =
+        run_dropped J P n days V.stage.some (trace K b) V.stage.apart out v i hi kept r V.mid s e V.here V.marked V.past found.1
+        (λ B. no_turn n (inl B)) no_turn
 
-    pub dropped-none : in_turn (v.other s) (change K b a) ≡ in_turn r (change K b a)
-    dropped-none = none-listed (no-bump J P n days V.stage.some (trace K b) V.stage.apart out v i hi kept r V.mid s e V.here V.marked V.past found.1 (λ B. no-turn n (inl B)))
+    pub dropped_none : in_turn (v.other s) (change K b a) ≡ in_turn r (change K b a)
+    dropped_none = none_listed (no_bump J P n days V.stage.some (trace K b) V.stage.apart out v i hi kept r V.mid s e V.here V.marked V.past found.1 (λ B. no_turn n (inl B)))
 
   -- it is kept
   module _ (F : FateOf (aimed K down) days n s (v.other s) (v.total (s - 1)) (v.total s) (v.total (v.other s + 1)) Kept) where
-    not-levelled : Bump J z (s - 1) n → ⊥
-    not-levelled B = let t = tested-bump n B in F t.0 t.1 (placed n (inl B)).1
+    not_levelled : Bump J z (s - 1) n → ⊥
+    not_levelled B = let t = tested_bump n B in F t.0 t.1 (placed n (inl B)).1
 
-    pub visit-kept : Midway (aimed K down) n (suc days) (trace K b) (with_mark v kept s) (suc i) hi (suc kept) (v.other s)
-    visit-kept =
-        run-kept J P n days V.stage.some (trace K b) V.stage.apart out v i hi kept r V.mid s e V.here V.marked V.past found.1 not-levelled
+    pub visit_kept : Midway (aimed K down) n (suc days) (trace K b) (with_mark v kept s) (suc i) hi (suc kept) (v.other s)
+    visit_kept =
+        run_kept J P n days V.stage.some (trace K b) V.stage.apart out v i hi kept r V.mid s e V.here V.marked V.past found.1 not_levelled
 
-    pub kept-none : in_turn (v.other s) (change K b a) ≡ in_turn r (change K b a)
-    kept-none = none-listed (no-bump J P n days V.stage.some (trace K b) V.stage.apart out v i hi kept r V.mid s e V.here V.marked V.past found.1 not-levelled)
+    pub kept_none : in_turn (v.other s) (change K b a) ≡ in_turn r (change K b a)
+    kept_none = none_listed (no_bump J P n days V.stage.some (trace K b) V.stage.apart out v i hi kept r V.mid s e V.here V.marked V.past found.1 not_levelled)
 
   -- its run is levelled
   module _ (F : FateOf (aimed K down) days n s (v.other s) (v.total (s - 1)) (v.total s) (v.total (v.other s + 1)) Levelled)
@@ -158,9 +158,9 @@ module _ (K : Kind) (O : Lawful K) (down : Bool) (n days : ℕ) (v : View (Of K)
     falls : Below J (z (suc e)) (z s)
     falls = rw ((behind F.0).0, found.0) at F.2
 
-    t-is : t ≡ higher J (z (s - 1)) (z (suc e))
+    t_is : t ≡ higher J (z (s - 1)) (z (suc e))
     unfolding higher
-    t-is = rw (beside.0, (behind F.0).0)
+    t_is = rw (beside.0, (behind F.0).0)
 
     lefts : ((z (s - 1) ≡ t) × Run (suc days) z s' (s - 1)) ⊎ ((z (s - 1) ≡ t → ⊥) × (s' ≡ s))
     lefts = elim (same_or_not J P 0 (λ _. t) (z (s - 1)) t) [
@@ -174,46 +174,46 @@ module _ (K : Kind) (O : Lawful K) (down : Bool) (n days : ℕ) (v : View (Of K)
       | inr q ↦ inr (q, E.right.1 (λ p. q (sym (behind F.0).0 ∙ p)))
     ]
 
-    pub visit-levelled : Midway (aimed K down) n (suc days) (trace K b) w (suc i) hi kept' e'
-    visit-levelled = elim G [
+    pub visit_levelled : Midway (aimed K down) n (suc days) (trace K b) w (suc i) hi kept' e'
+    visit_levelled = elim G [
       | inl (p, q, m) ↦ rw (p, q, E.written)
-          (levelled-same J P n days V.stage.some (trace K b) V.stage.apart out v i hi kept r V.mid s e V.here V.marked V.past found.1 F.3 up falls s' e' t t-is lefts rights (rw E.written at m))
+          (levelled_same J P n days V.stage.some (trace K b) V.stage.apart out v i hi kept r V.mid s e V.here V.marked V.past found.1 F.3 up falls s' e' t t_is lefts rights (rw E.written at m))
       | inr (p, q, pos, m) ↦ rw (p, q, E.written)
-          (levelled-marked J P n days V.stage.some (trace K b) V.stage.apart out v i hi kept r V.mid s e V.here V.marked V.past found.1 F.3 up falls s' e' t t-is lefts rights pos (rw E.written at m))
+          (levelled_marked J P n days V.stage.some (trace K b) V.stage.apart out v i hi kept r V.mid s e V.here V.marked V.past found.1 F.3 up falls s' e' t t_is lefts rights pos (rw E.written at m))
     ]
 
     reaches : e ≤ e'
     reaches = elim rights [ inl (q, Q) ↦ let f = Q.order in omega arith | inr (q, f) ↦ omega arith ]
 
     there : Bump J (trace K b) (s - 1) n
-    there = the-bump J P n days V.stage.some (trace K b) V.stage.apart out v i hi kept r V.mid s e V.here V.marked V.past found.1 F.3 up falls s' e' t t-is lefts rights
+    there = the_bump J P n days V.stage.some (trace K b) V.stage.apart out v i hi kept r V.mid s e V.here V.marked V.past found.1 F.3 up falls s' e' t t_is lefts rights
 
-    as-there : (d : ℕ) → s - 1 ≤ d → z d ≡ trace K b d
-    as-there =
+    as_there : (d : ℕ) → s - 1 ≤ d → z d ≡ trace K b d
+    as_there =
         let f = V.past in
-        bump-there-same J P n days (trace K b) V.stage.apart out r V.mid.clear (s - 1) (omega arith)
-        (run_bump J (suc days) n z s e found.1 visit-starts F.3 up falls)
+        bump_there_same J P n days (trace K b) V.stage.apart out r V.mid.clear (s - 1) (omega arith)
+        (run_bump J (suc days) n z s e found.1 visit_starts F.3 up falls)
 
-    the-pulse : lowering K (aimed K down).below n (trace K b) (s - 1) ≡ bump_pulse K down v n s (v.other s)
+    the_pulse : lowering K (aimed K down).below n (trace K b) (s - 1) ≡ bump_pulse K down v n s (v.other s)
     unfolding higher
-    the-pulse =
-        let f = visit-starts in
+    the_pulse =
+        let f = visit_starts in
         let i1 : suc (s - 1) ≡ s = omega arith in
         let i2 : suc (s - 1 + n) ≡ suc e = let q = F.3 in omega arith in
         let o = found.1.order in
-        rw (i1, i2, beside.0, found.0, (behind F.0).0, as-there (s - 1) (omega arith), as-there s (omega arith), as-there (suc e) (omega arith)) refl
+        rw (i1, i2, beside.0, found.0, (behind F.0).0, as_there (s - 1) (omega arith), as_there s (omega arith), as_there (suc e) (omega arith)) refl
 
-    pub levelled-one : in_turn e' (change K b a) ≡ in_turn r (change K b a) ++ bump_pulse K down v n s (v.other s) ∷ []
-    levelled-one =
-        let f = visit-starts in
+    pub levelled_one : in_turn e' (change K b a) ≡ in_turn r (change K b a) ++ bump_pulse K down v n s (v.other s) ∷ []
+    levelled_one =
+        let f = visit_starts in
         let g = V.past in
         let o = found.1.order in
         let i1 : suc (s - 1) ≡ s = omega arith in
         let here : change K b a s ≡ bump_pulse K down v n s (v.other s) ∷ [] = elim (change_is K O (aimed K down).below n b a (stage_pass K O down n b a V.stage) (s - 1)) [
-          | inl (B, q) ↦ ap (change K b a) (sym i1) ∙ (q ∙ ap (λ p. p ∷ []) the-pulse)
+          | inl (B, q) ↦ ap (change K b a) (sym i1) ∙ (q ∙ ap (λ p. p ∷ []) the_pulse)
           | inr (h, q) ↦ absurd (h there)
         ] in
-        in_turn_none (change K b a) s e' (let q = reaches in omega arith) (λ c h l. unlisted c (none_after J P n days V.stage.some (trace K b) V.stage.apart out v i hi kept r V.mid s e V.here V.marked V.past found.1 F.3 up falls s' e' t t-is lefts rights c h l)) ∙
+        in_turn_none (change K b a) s e' (let q = reaches in omega arith) (λ c h l. unlisted c (none_after J P n days V.stage.some (trace K b) V.stage.apart out v i hi kept r V.mid s e V.here V.marked V.past found.1 F.3 up falls s' e' t t_is lefts rights c h l)) ∙
         (in_turn_one (change K b a) s f ∙
         (rw here (ap (λ l. l ++ bump_pulse K down v n s (v.other s) ∷ [])
-        (in_turn_none (change K b a) r (s - 1) (omega arith) (λ c h l. unlisted c (none_before J P n days V.stage.some (trace K b) V.stage.apart out v i hi kept r V.mid s e V.here V.marked V.past found.1 F.3 up falls s' e' t t-is lefts rights c h l))))))
+        (in_turn_none (change K b a) r (s - 1) (omega arith) (λ c h l. unlisted c (none_before J P n days V.stage.some (trace K b) V.stage.apart out v i hi kept r V.mid s e V.here V.marked V.past found.1 F.3 up falls s' e' t t_is lefts rights c h l))))))

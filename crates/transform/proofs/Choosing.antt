@@ -7,8 +7,8 @@ use Rattle.transform.specs.Windows.{Record, Trace}
 use Rattle.transform.specs.Pulses.{Pulse, pulses, chosen, standing}
 use Rattle.transform.specs.Theory.{EachLater}
 use Rattle.transform.proofs.Levels.{Levels, either_step}
-use Rattle.transform.proofs.Sums.{shape, numbered, flags, chosen_numbered, follows-still, levels-differ}
-use Rattle.transform.proofs.Stages.{pulses-level}
+use Rattle.transform.proofs.Sums.{shape, numbered, flags, chosen_numbered, follows_still, levels_differ}
+use Rattle.transform.proofs.Stages.{pulses_level}
 
 pub flags_at : {A : Type 0} (test : A → Bool) (xs : List A) (k : ℕ) (a : A) → k < length xs → flags test xs k ≡ test (get_or xs k a)
 unfolding flags
@@ -22,40 +22,40 @@ all_both P Q R f (x ∷ xs) h k = (f x h.0 k.0, all_both P Q R f xs h.1 k.1)
 
 module _ (K : Kind) (O : Lawful K) where
   -- by number: numbers count from 0
-  pub pulses-differ-numbered : (xs : Record K) (m m' : ℕ → Bool) → ((d : ℕ) → standing K (numbered m (pulses K xs)) d ≡ standing K (numbered m' (pulses K xs)) d) →
+  pub pulses_differ_numbered : (xs : Record K) (m m' : ℕ → Bool) → ((d : ℕ) → standing K (numbered m (pulses K xs)) d ≡ standing K (numbered m' (pulses K xs)) d) →
       (k : ℕ) → k < length (pulses K xs) → m k ≡ m' k
-  pulses-differ-numbered xs m m' E = levels-differ K O (pulses K xs) m m' _ _ (pulses-level K O xs) E
+  pulses_differ_numbered xs m m' E = levels_differ K O (pulses K xs) m m' _ _ (pulses_level K O xs) E
 
-  pub pulses-differ : (xs : Record K) (keep keep' : Pulse K → Bool) → ((d : ℕ) → standing K (chosen keep (pulses K xs)) d ≡ standing K (chosen keep' (pulses K xs)) d) →
+  pub pulses_differ : (xs : Record K) (keep keep' : Pulse K → Bool) → ((d : ℕ) → standing K (chosen keep (pulses K xs)) d ≡ standing K (chosen keep' (pulses K xs)) d) →
       (p : Pulse K) → Has (pulses K xs) p → keep p ≡ keep' p
-  pulses-differ xs keep keep' E p (k, h, e) =
+  pulses_differ xs keep keep' E p (k, h, e) =
       ap keep (sym (e p)) ∙ sym (flags_at keep (pulses K xs) k p h) ∙
-      pulses-differ-numbered xs (flags keep (pulses K xs)) (flags keep' (pulses K xs)) (λ d. rw (← (chosen_numbered keep (pulses K xs)), ← (chosen_numbered keep' (pulses K xs))) (E d)) k h ∙
+      pulses_differ_numbered xs (flags keep (pulses K xs)) (flags keep' (pulses K xs)) (λ d. rw (← (chosen_numbered keep (pulses K xs)), ← (chosen_numbered keep' (pulses K xs))) (E d)) k h ∙
       flags_at keep' (pulses K xs) k p h ∙ ap keep' (e p)
 
   -- no pulse has an edge where the trace does not move
-  still-for-all : (b : ℕ) (ps : List (Pulse K)) (x z : Trace K) → Levels K x ps z → x (suc b) ≡ x b → All (λ p. shape K p (suc b) ≡ shape K p b) ps
-  still-for-all b [] x z l e = tt
-  still-for-all b (p ∷ ps) x z (q, f, s, k) e =
+  still_for_all : (b : ℕ) (ps : List (Pulse K)) (x z : Trace K) → Levels K x ps z → x (suc b) ≡ x b → All (λ p. shape K p (suc b) ≡ shape K p b) ps
+  still_for_all b [] x z l e = tt
+  still_for_all b (p ∷ ps) x z (q, f, s, k) e =
       let S = either_step K O x q p.width p.amount s in
-      (rw f (follows-still K O x _ S.taken b e), still-for-all b ps _ z k (follows-still K O x _ S.left b e))
+      (rw f (follows_still K O x _ S.taken b e), still_for_all b ps _ z k (follows_still K O x _ S.left b e))
 
   -- and each has one at its first day and one at its last
-  edges-of-all : (ps : List (Pulse K)) (x z : Trace K) → Levels K x ps z → All (λ p. (q : ℕ) × (p.first ≡ suc q) × (shape K p (suc q) ≡ shape K p q → ⊥) × (shape K p (suc (q + p.width)) ≡ shape K p (q + p.width) → ⊥)) ps
-  edges-of-all [] x z l = tt
-  edges-of-all (p ∷ ps) x z (q, f, s, k) =
+  edges_of_all : (ps : List (Pulse K)) (x z : Trace K) → Levels K x ps z → All (λ p. (q : ℕ) × (p.first ≡ suc q) × (shape K p (suc q) ≡ shape K p q → ⊥) × (shape K p (suc (q + p.width)) ≡ shape K p (q + p.width) → ⊥)) ps
+  edges_of_all [] x z l = tt
+  edges_of_all (p ∷ ps) x z (q, f, s, k) =
       let S = either_step K O x q p.width p.amount s in
-      ((q, f, rw f S.opens, rw f S.closes), edges-of-all ps _ z k)
+      ((q, f, rw f S.opens, rw f S.closes), edges_of_all ps _ z k)
 
-  levels-apart : (ps : List (Pulse K)) (x z : Trace K) → Levels K x ps z → EachLater (λ p r. p.first ≡ r.first → p.width ≡ r.width → ⊥) ps
-  levels-apart [] x z l = tt
-  levels-apart (p ∷ ps) x z (q, f, s, k) = (
+  levels_apart : (ps : List (Pulse K)) (x z : Trace K) → Levels K x ps z → EachLater (λ p r. p.first ≡ r.first → p.width ≡ r.width → ⊥) ps
+  levels_apart [] x z l = tt
+  levels_apart (p ∷ ps) x z (q, f, s, k) = (
     elim (either_step K O x q p.width p.amount s).still [
-      | inl e ↦ all_both _ _ _ (λ r t (u, g, o, c) a b. o (subst (λ i. shape K r (suc i) ≡ shape K r i) (omega arith) t)) ps (still-for-all q ps _ z k e) (edges-of-all ps _ z k)
-      | inr e ↦ all_both _ _ _ (λ r t (u, g, o, c) a b. c (subst (λ i. shape K r (suc i) ≡ shape K r i) (omega arith) t)) ps (still-for-all (q + p.width) ps _ z k e) (edges-of-all ps _ z k)
+      | inl e ↦ all_both _ _ _ (λ r t (u, g, o, c) a b. o (subst (λ i. shape K r (suc i) ≡ shape K r i) (omega arith) t)) ps (still_for_all q ps _ z k e) (edges_of_all ps _ z k)
+      | inr e ↦ all_both _ _ _ (λ r t (u, g, o, c) a b. c (subst (λ i. shape K r (suc i) ≡ shape K r i) (omega arith) t)) ps (still_for_all (q + p.width) ps _ z k e) (edges_of_all ps _ z k)
     ],
-    levels-apart ps _ z k,
+    levels_apart ps _ z k,
   )
 
-  pub pulses-apart : (xs : Record K) → EachLater (λ p r. p.first ≡ r.first → p.width ≡ r.width → ⊥) (pulses K xs)
-  pulses-apart xs = levels-apart (pulses K xs) _ _ (pulses-level K O xs)
+  pub pulses_apart : (xs : Record K) → EachLater (λ p r. p.first ≡ r.first → p.width ≡ r.width → ⊥) (pulses K xs)
+  pulses_apart xs = levels_apart (pulses K xs) _ _ (pulses_level K O xs)

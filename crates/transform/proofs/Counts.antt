@@ -7,8 +7,8 @@ use Rattle.transform.specs.Windows.{Record, Trace, trace}
 use Rattle.transform.specs.Pulses.{Pulse, pulses}
 use Rattle.transform.proofs.Smooths.{trace_outside}
 use Rattle.transform.proofs.Levels.{cut, Levels, Step, either_step}
-use Rattle.transform.proofs.Sums.{follows-still}
-use Rattle.transform.proofs.Stages.{pulses-level}
+use Rattle.transform.proofs.Sums.{follows_still}
+use Rattle.transform.proofs.Stages.{pulses_level}
 
 -- how many of the numbers below n meet the test
 tally : (ℕ → Bool) → ℕ → ℕ
@@ -72,19 +72,19 @@ module _ (K : Kind) (O : Lawful K) where
   unfolding moves
   moves_not x b e = rw e (or_from _ _ (O.irreflexive (x b)) (O.irreflexive (x b)))
 
-  moves-still : (x : Trace K) (b : ℕ) → moves K x b ≡ false → x (suc b) ≡ x b
+  moves_still : (x : Trace K) (b : ℕ) → moves K x b ≡ false → x (suc b) ≡ x b
   unfolding moves
-  moves-still x b e = O.tight _ _ (or_parts _ _ e).1 (or_parts _ _ e).0
+  moves_still x b e = O.tight _ _ (or_parts _ _ e).1 (or_parts _ _ e).0
 
   moves_so : (x : Trace K) (b : ℕ) → (x (suc b) ≡ x b → ⊥) → moves K x b ≡ true
-  moves_so x b h = elim (cases_Bool (moves K x b)) [ inl e ↦ e | inr e ↦ absurd (h (moves-still x b e)) ]
+  moves_so x b h = elim (cases_Bool (moves K x b)) [ inl e ↦ e | inr e ↦ absurd (h (moves_still x b e)) ]
 
   module _ (n : ℕ) (x : Trace K) (q w : ℕ) (v : Of K) (S : Step K x q w v) (o : (b : ℕ) → n < b → x (suc b) ≡ x b) where
     opened : x (suc q) ≡ x q → ⊥
-    opened e = S.opens (follows-still K O x _ S.taken q e)
+    opened e = S.opens (follows_still K O x _ S.taken q e)
 
     closed : x (suc (q + w)) ≡ x (q + w) → ⊥
-    closed e = S.closes (follows-still K O x _ S.taken (q + w) e)
+    closed e = S.closes (follows_still K O x _ S.taken (q + w) e)
 
     pub inside : q + w ≤ n
     inside = elim (cases_lt n (q + w)) [ inl h ↦ absurd (closed (o (q + w) h)) | inr h ↦ h ]
@@ -99,23 +99,23 @@ module _ (K : Kind) (O : Lawful K) where
     ]
       where
         lost : (b : ℕ) → b < suc n → moves K x b ≡ true → moves K (cut K.arity x (suc q) w v) b ≡ false → tally (moves K (cut K.arity x (suc q) w v)) (suc n) < tally (moves K x) (suc n)
-        lost = tally_lost (moves K x) _ (suc n) (λ b e. moves_not _ b (follows-still K O x _ S.left b (moves-still x b e)))
+        lost = tally_lost (moves K x) _ (suc n) (λ b e. moves_not _ b (follows_still K O x _ S.left b (moves_still x b e)))
 
-  levels-few : (n : ℕ) (ps : List (Pulse K)) (p : Pulse K) (x z : Trace K) → ((b : ℕ) → n < b → x (suc b) ≡ x b) → Levels K x (p ∷ ps) z → length ps + 2 ≤ tally (moves K x) (suc n)
-  levels-few n [] p x z o (q, f, s, k) = two_edges n x q p.width p.amount (either_step K O x q p.width p.amount s) o
-  levels-few n (r ∷ ps) p x z o (q, f, s, k) =
+  levels_few : (n : ℕ) (ps : List (Pulse K)) (p : Pulse K) (x z : Trace K) → ((b : ℕ) → n < b → x (suc b) ≡ x b) → Levels K x (p ∷ ps) z → length ps + 2 ≤ tally (moves K x) (suc n)
+  levels_few n [] p x z o (q, f, s, k) = two_edges n x q p.width p.amount (either_step K O x q p.width p.amount s) o
+  levels_few n (r ∷ ps) p x z o (q, f, s, k) =
       let S = either_step K O x q p.width p.amount s in
       let h = one_fewer n x q p.width p.amount S o in
-      let g = levels-few n ps r (cut K.arity x (suc q) p.width p.amount) z (λ b l. follows-still K O x _ S.left b (o b l)) k in
+      let g = levels_few n ps r (cut K.arity x (suc q) p.width p.amount) z (λ b l. follows_still K O x _ S.left b (o b l)) k in
       omega arith
 
-  pub levels-length : (n : ℕ) (ps : List (Pulse K)) (x z : Trace K) → ((b : ℕ) → n < b → x (suc b) ≡ x b) → Levels K x ps z → length ps ≤ n
-  levels-length n [] x z o l = omega arith
-  levels-length n (p ∷ ps) x z o l = let h = levels-few n ps p x z o l in let k = tally_most (moves K x) (suc n) in omega arith
+  pub levels_length : (n : ℕ) (ps : List (Pulse K)) (x z : Trace K) → ((b : ℕ) → n < b → x (suc b) ≡ x b) → Levels K x ps z → length ps ≤ n
+  levels_length n [] x z o l = omega arith
+  levels_length n (p ∷ ps) x z o l = let h = levels_few n ps p x z o l in let k = tally_most (moves K x) (suc n) in omega arith
 
   -- outside the record nothing moves
-  pub still-outside : (xs : Record K) (b : ℕ) → length xs < b → trace K xs (suc b) ≡ trace K xs b
-  still-outside xs b h = (trace_outside K xs).1 (suc b) (omega arith) ∙ sym ((trace_outside K xs).1 b h)
+  pub still_outside : (xs : Record K) (b : ℕ) → length xs < b → trace K xs (suc b) ≡ trace K xs b
+  still_outside xs b h = (trace_outside K xs).1 (suc b) (omega arith) ∙ sym ((trace_outside K xs).1 b h)
 
-  pub pulses-few : (xs : Record K) → length (pulses K xs) ≤ length xs
-  pulses-few xs = levels-length (length xs) (pulses K xs) _ _ (still-outside xs) (pulses-level K O xs)
+  pub pulses_few : (xs : Record K) → length (pulses K xs) ≤ length xs
+  pulses_few xs = levels_length (length xs) (pulses K xs) _ _ (still_outside xs) (pulses_level K O xs)

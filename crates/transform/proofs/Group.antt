@@ -6,7 +6,7 @@ use Rattle.kinds.specs.Columns.{Arity, one, two, Columns, nought, plus, minus}
 use Rattle.kinds.specs.Kinds.{Kind, Of, Lawful}
 use Rattle.transform.specs.Pulses.{size}
 use Rattle.transform.specs.Theory.{turned}
-use Rattle.transform.proofs.Order.{AtMost, at-most-trans}
+use Rattle.transform.proofs.Order.{AtMost, at_most_trans}
 
 both : {A B : Type 0} {p q : A × B} → p.0 ≡ q.0 → p.1 ≡ q.1 → p ≡ q
 both e f = λ i. (e i, f i)
@@ -76,8 +76,8 @@ plus_undone a x y = minus_is a (plus a x y) y ∙ ap (λ s. minus a s y) (plus_c
 
 module _ (K : Kind) (O : Lawful K) where
   -- adding the same to both sides changes nothing of the order
-  pub below-shifted : (x y z : Of K) → K.below (plus K.arity x z) (plus K.arity y z) ≡ K.below x y
-  below-shifted x y z = elim (cases_Bool (K.below x y)) [
+  pub below_shifted : (x y z : Of K) → K.below (plus K.arity x z) (plus K.arity y z) ≡ K.below x y
+  below_shifted x y z = elim (cases_Bool (K.below x y)) [
     | inl e ↦ O.shifted x y z e ∙ sym e
     | inr e ↦ elim (cases_Bool (K.below (plus K.arity x z) (plus K.arity y z))) [
       | inl f ↦ absurd (both_ways _ e (rw (plus_undone K.arity x z, plus_undone K.arity y z) at (O.shifted _ _ (minus K.arity (nought K.arity) z) f)))
@@ -86,23 +86,23 @@ module _ (K : Kind) (O : Lawful K) where
   ]
 
   pub above_zero : (x y : Of K) → K.below (nought K.arity) (minus K.arity y x) ≡ K.below x y
-  above_zero x y = sym (below-shifted _ _ x) ∙ rw (nought_plus, minus_then_plus)
+  above_zero x y = sym (below_shifted _ _ x) ∙ rw (nought_plus, minus_then_plus)
 
-  pub below-zero : (x y : Of K) → K.below (minus K.arity y x) (nought K.arity) ≡ K.below y x
-  below-zero x y = sym (below-shifted _ _ x) ∙ rw (nought_plus, minus_then_plus)
+  pub below_zero : (x y : Of K) → K.below (minus K.arity y x) (nought K.arity) ≡ K.below y x
+  below_zero x y = sym (below_shifted _ _ x) ∙ rw (nought_plus, minus_then_plus)
 
-  pub plus-at-most : (x y u v : Of K) → AtMost K x y → AtMost K u v → AtMost K (plus K.arity x u) (plus K.arity y v)
-  plus-at-most x y u v h k =
-      at-most-trans K O _ (plus K.arity y u) _ (below-shifted y x u ∙ h)
-      (rw (plus_comm K.arity y u, plus_comm K.arity y v) (below-shifted v u y ∙ k))
+  pub plus_at_most : (x y u v : Of K) → AtMost K x y → AtMost K u v → AtMost K (plus K.arity x u) (plus K.arity y v)
+  plus_at_most x y u v h k =
+      at_most_trans K O _ (plus K.arity y u) _ (below_shifted y x u ∙ h)
+      (rw (plus_comm K.arity y u, plus_comm K.arity y v) (below_shifted v u y ∙ k))
 
-  pub size-up : (x : Of K) → AtMost K (nought K.arity) x → size K x ≡ x
+  pub size_up : (x : Of K) → AtMost K (nought K.arity) x → size K x ≡ x
   unfolding size
-  size-up x h = cond-false _ _ _ h
+  size_up x h = cond-false _ _ _ h
 
-  pub size-down : (x : Of K) → AtMost K x (nought K.arity) → size K x ≡ minus K.arity (nought K.arity) x
+  pub size_down : (x : Of K) → AtMost K x (nought K.arity) → size K x ≡ minus K.arity (nought K.arity) x
   unfolding size
-  size-down x h = elim (cases_Bool (K.below x (nought K.arity))) [
+  size_down x h = elim (cases_Bool (K.below x (nought K.arity))) [
     | inl e ↦ cond-true _ _ _ e
     | inr e ↦ cond-false _ _ _ e ∙ O.tight _ _ e h ∙ sym (minus_self K.arity _) ∙ ap (minus K.arity (nought K.arity)) (sym (O.tight _ _ e h))
   ]
@@ -116,8 +116,8 @@ agree_turned K x y (inl h) = inr h
 agree_turned K x y (inr h) = inl h
 
 module _ (K : Kind) (O : Lawful K) where
-  pub size-sum : (x y : Of K) → Agree K x y → size K (plus K.arity x y) ≡ plus K.arity (size K x) (size K y)
-  size-sum x y (inl (h, k)) =
-      size-up K O _ (rw (plus_nought K.arity (nought K.arity)) at (plus-at-most K O _ _ _ _ h k)) ∙ rw (size-up K O x h, size-up K O y k)
-  size-sum x y (inr (h, k)) =
-      size-down K O _ (rw (plus_nought K.arity (nought K.arity)) at (plus-at-most K O _ _ _ _ h k)) ∙ rw (size-down K O x h, size-down K O y k) (negated_sum K.arity x y)
+  pub size_sum : (x y : Of K) → Agree K x y → size K (plus K.arity x y) ≡ plus K.arity (size K x) (size K y)
+  size_sum x y (inl (h, k)) =
+      size_up K O _ (rw (plus_nought K.arity (nought K.arity)) at (plus_at_most K O _ _ _ _ h k)) ∙ rw (size_up K O x h, size_up K O y k)
+  size_sum x y (inr (h, k)) =
+      size_down K O _ (rw (plus_nought K.arity (nought K.arity)) at (plus_at_most K O _ _ _ _ h k)) ∙ rw (size_down K O x h, size_down K O y k) (negated_sum K.arity x y)

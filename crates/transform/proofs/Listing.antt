@@ -10,11 +10,11 @@ use Rattle.kinds.specs.Kinds.{Kind, Of, Lawful}
 use Rattle.transform.specs.Windows.{Record, Trace, trace, L, higher}
 use Rattle.transform.specs.Pulses.{Pulse, in_turn, changed, begins, unbroken, change, changes, covers}
 use Rattle.transform.specs.Theory.{turned, Bump, Regular}
-use Rattle.transform.proofs.Order.{not_itself, higher-both}
-use Rattle.transform.proofs.Windows.{Apart, L-levels, kept-or-bump, kept-before-rise, kept-after-fall}
+use Rattle.transform.proofs.Order.{not_itself, higher_both}
+use Rattle.transform.proofs.Windows.{Apart, L_levels, kept_or_bump, kept_before_rise, kept_after_fall}
 use Rattle.transform.proofs.Smooths.{trace_outside}
-use Rattle.transform.proofs.Passes.{pass, Clear, None, bump_same, bump_falls, bumps-part, none_inside, pass-start, pass-end, pass_on, pass-near, pass-level, pass-before, pass-after}
-use Rattle.transform.proofs.Levels.{cut, Levels, Lowers, cut-before, cut_on, cut-after, amount-above}
+use Rattle.transform.proofs.Passes.{pass, Clear, None, bump_same, bump_falls, bumps_part, none_inside, pass_start, pass_end, pass_on, pass_near, pass_level, pass_before, pass_after}
+use Rattle.transform.proofs.Levels.{cut, Levels, Lowers, cut_before, cut_on, cut_after, amount_above}
 use Rattle.transform.proofs.Sums.{levels_append}
 
 -- the kind with another order
@@ -74,12 +74,12 @@ module _ (K : Kind) (O : Lawful K) (lt : Of K → Of K → Bool) (n : ℕ) (b a 
   kept d e = ap (λ t. t d) V.levels ∙ e
 
   level : (p d : ℕ) → Bump (sided K lt) (trace K b) p n → p < d → d ≤ p + n → trace K a d ≡ higher (sided K lt) (trace K b p) (trace K b (suc (p + n)))
-  level p d B h l = ap (λ t. t d) V.levels ∙ L-levels (sided K lt) V.lawful n (trace K b) p d B h l
+  level p d B h l = ap (λ t. t d) V.levels ∙ L_levels (sided K lt) V.lawful n (trace K b) p d B h l
 
   bump_changed : (p d : ℕ) → Bump (sided K lt) (trace K b) p n → p < d → d ≤ p + n → changed K (trace K b) (trace K a) d ≡ true
   bump_changed p d B h l = changed_so K O _ _ d (λ e. not_itself (sided K lt) V.lawful _ _
       (sym (level p d B h l) ∙ e ∙ B.level d h l)
-      (higher-both (sided K lt) V.lawful _ _ (λ v. lt v (trace K b (suc p)) ≡ true) B.rises B.falls))
+      (higher_both (sided K lt) V.lawful _ _ (λ v. lt v (trace K b (suc p)) ≡ true) B.rises B.falls))
 
   pub bump_within : (p : ℕ) → Bump (sided K lt) (trace K b) p n → p + n ≤ length b
   bump_within p B = elim (cases_lt (length b) (p + n)) [
@@ -89,7 +89,7 @@ module _ (K : Kind) (O : Lawful K) (lt : Of K → Of K → Bool) (n : ℕ) (b a 
 
   begins_bump : (c : ℕ) → begins (changed K (trace K b) (trace K a)) (suc c) ≡ true → Bump (sided K lt) (trace K b) c n
   unfolding begins
-  begins_bump c e = elim (kept-or-bump (sided K lt) V.lawful n (trace K b) V.apart (suc c)) [
+  begins_bump c e = elim (kept_or_bump (sided K lt) V.lawful n (trace K b) V.apart (suc c)) [
     | inl k ↦ absurd (both_ways _ (changed_not K O _ _ (suc c) (kept (suc c) k)) (and_parts _ _ e).0)
     | inr (p, h, l, B) ↦ elim (cases_lt p c) [
       | inl m ↦ absurd (both_ways _ (not-true _ (and_parts _ _ e).1) (bump_changed p (suc c - 1) B (omega arith) (omega arith)))
@@ -102,7 +102,7 @@ module _ (K : Kind) (O : Lawful K) (lt : Of K → Of K → Bool) (n : ℕ) (b a 
   bump_begins c B =
       let s = V.some in
       and_from _ _ (bump_changed c (suc c) B (omega arith) (omega arith))
-      (not_from_false _ (rw (let z : suc c - 1 ≡ c = omega arith in z) (changed_not K O _ _ c (kept c (kept-before-rise (sided K lt) V.lawful n (trace K b) V.apart c B.rises)))))
+      (not_from_false _ (rw (let z : suc c - 1 ≡ c = omega arith in z) (changed_not K O _ _ c (kept c (kept_before_rise (sided K lt) V.lawful n (trace K b) V.apart c B.rises)))))
 
   change_bump : (c : ℕ) → Bump (sided K lt) (trace K b) c n → change K b a (suc c) ≡ lowering K lt n (trace K b) c ∷ []
   unfolding change
@@ -114,7 +114,7 @@ module _ (K : Kind) (O : Lawful K) (lt : Of K → Of K → Bool) (n : ℕ) (b a 
         width = unbroken_is (changed K (trace K b) (trace K a)) (length b) n (suc c) (let z = bump_within c B in omega arith)
             (λ d h l. bump_changed c d B h (omega arith))
             (rw (let z : suc c + n ≡ suc (c + n) = omega arith in z)
-            (changed_not K O _ _ _ (kept _ (kept-after-fall (sided K lt) V.lawful n (trace K b) V.apart (c + n) (bump_falls (sided K lt) _ c n B))))) i;
+            (changed_not K O _ _ _ (kept _ (kept_after_fall (sided K lt) V.lawful n (trace K b) V.apart (c + n) (bump_falls (sided K lt) _ c n B))))) i;
         amount = minus K.arity (trace K b (suc c)) (level c (suc c) B (omega arith) (omega arith) i);
       } ∷ [])
 
@@ -139,7 +139,7 @@ module _ (K : Kind) (O : Lawful K) (lt : Of K → Of K → Bool) (n : ℕ) (b a 
           ends = let z = bump_within c B in omega arith;
           even = λ d h. even c B d (covers_first _ d h) (covers_last _ d h);
         },
-        amount-above (sided K lt) V.lawful (trace K b) c n _ (record { bump = B; amount = refl }),
+        amount_above (sided K lt) V.lawful (trace K b) c n _ (record { bump = B; amount = refl }),
       ),
       tt,
     )
@@ -179,7 +179,7 @@ module _ (K : Kind) (O : Lawful K) (lt : Of K → Of K → Bool) (n : ℕ) (b a 
     one_more c B = (c, refl, way _ c n _ S, fun_ext day)
       where
         near : (d : ℕ) → c ≤ d → pass (sided K lt) n (trace K b) c d ≡ trace K b d
-        near = pass-near (sided K lt) V.lawful n (trace K b) V.apart c c (omega arith) B
+        near = pass_near (sided K lt) V.lawful n (trace K b) V.apart c c (omega arith) B
 
         S : Lowers (sided K lt) (pass (sided K lt) n (trace K b) c) c n (lowering K lt n (trace K b) c).amount
         S = record {
@@ -189,16 +189,16 @@ module _ (K : Kind) (O : Lawful K) (lt : Of K → Of K → Bool) (n : ℕ) (b a 
 
         day : (d : ℕ) → cut K.arity (pass (sided K lt) n (trace K b) c) (suc c) n (lowering K lt n (trace K b) c).amount d ≡ pass (sided K lt) n (trace K b) (c + n) d
         day d = elim (cases_lt c d) [
-          | inr h ↦ cut-before (sided K lt) V.lawful _ c n _ S d h ∙ sym (pass-before (sided K lt) V.lawful n _ c d h)
+          | inr h ↦ cut_before (sided K lt) V.lawful _ c n _ S d h ∙ sym (pass_before (sided K lt) V.lawful n _ c d h)
           | inl h ↦ elim (cases_lt (c + n) d) [
-            | inl l ↦ cut-after (sided K lt) V.lawful _ c n _ S d l ∙ sym (pass-after (sided K lt) V.lawful n _ c d l)
-            | inr l ↦ cut_on (sided K lt) V.lawful _ c n _ S d h l ∙ sym (pass-level (sided K lt) V.lawful n _ V.apart c B d h l)
+            | inl l ↦ cut_after (sided K lt) V.lawful _ c n _ S d l ∙ sym (pass_after (sided K lt) V.lawful n _ c d l)
+            | inr l ↦ cut_on (sided K lt) V.lawful _ c n _ S d h l ∙ sym (pass_level (sided K lt) V.lawful n _ V.apart c B d h l)
           ]
         ]
 
     come : (c : ℕ) → Come c
     unfolding in_turn Come
-    come zero = (0, omega arith, λ p B h. absurd (omega arith), λ p B h. h, sym (pass-start (sided K lt) V.lawful n _))
+    come zero = (0, omega arith, λ p B h. absurd (omega arith), λ p B h. h, sym (pass_start (sided K lt) V.lawful n _))
     come (suc c) = onward (come c)
       where
         onward : Come c → Come (suc c)
@@ -206,7 +206,7 @@ module _ (K : Kind) (O : Lawful K) (lt : Of K → Of K → Bool) (n : ℕ) (b a 
           | inl (B, e) ↦
               let z : r ≡ c = let g = under c B (omega arith) in omega arith in
               let s = V.some in
-              (c + n, omega arith, λ p C g. omega arith, λ p C g. bumps-part (sided K lt) V.lawful n _ c p B C g, rw e (levels_append K _ _ _ (pass (sided K lt) n (trace K b) c) _ (rw z at l) (one_more c B)))
+              (c + n, omega arith, λ p C g. omega arith, λ p C g. bumps_part (sided K lt) V.lawful n _ c p B C g, rw e (levels_append K _ _ _ (pass (sided K lt) n (trace K b) c) _ (rw z at l) (one_more c B)))
           | inr (N, e) ↦
               let before : (p : ℕ) → Bump (sided K lt) (trace K b) p n → p < suc c → p < c = λ p C g. elim (cases_lt p c) [ inl m ↦ m | inr m ↦ absurd (N (rw (let z : c ≡ p = omega arith in z) C)) ] in
               elim (cases_lt c r) [
@@ -230,4 +230,4 @@ module _ (K : Kind) (O : Lawful K) (lt : Of K → Of K → Bool) (n : ℕ) (b a 
     changes_level = ending (come (length b))
       where
         ending : Come (length b) → Levels K (trace K b) (in_turn (length b) (change K b a)) (trace K a)
-        ending (r, h, over, under, l) = rw V.levels (rw (pass-end (sided K lt) V.lawful n _ (length b) r (trace_outside K b) h) at l)
+        ending (r, h, over, under, l) = rw V.levels (rw (pass_end (sided K lt) V.lawful n _ (length b) r (trace_outside K b) h) at l)

@@ -35,54 +35,54 @@ turned_lowest K f zero = refl
 turned_lowest K f (suc n) = ap (λ a. lower K a (f (suc n))) (turned_lowest K f n)
 
 module _ (K : Kind) (O : Lawful K) where
-  pub at-most-trans : (a b c : Of K) → AtMost K a b → AtMost K b c → AtMost K a c
-  at-most-trans a b c h k = grind (arith, O.irreflexive, O.transitive, O.tight, O.one_way)
+  pub at_most_trans : (a b c : Of K) → AtMost K a b → AtMost K b c → AtMost K a c
+  at_most_trans a b c h k = grind (arith, O.irreflexive, O.transitive, O.tight, O.one_way)
 
   pub below_then : (a b c : Of K) → Below K a b → AtMost K b c → Below K a c
   below_then a b c h k = grind (arith, O.irreflexive, O.transitive, O.tight, O.one_way)
 
-  pub then-below : (a b c : Of K) → AtMost K a b → Below K b c → Below K a c
-  then-below a b c h k = grind (arith, O.irreflexive, O.transitive, O.tight, O.one_way)
+  pub then_below : (a b c : Of K) → AtMost K a b → Below K b c → Below K a c
+  then_below a b c h k = grind (arith, O.irreflexive, O.transitive, O.tight, O.one_way)
 
   pub not_itself : (a b : Of K) → a ≡ b → Below K a b → ⊥
   not_itself a b e h = both_ways _ (rw e (O.irreflexive b)) h
 
-  pub not-below : (a b : Of K) → AtMost K b a → Below K a b → ⊥
-  not-below a b h k = both_ways _ h k
+  pub not_below : (a b : Of K) → AtMost K b a → Below K a b → ⊥
+  not_below a b h k = both_ways _ h k
 
-  pub at-most-same : (a b : Of K) → a ≡ b → AtMost K a b
-  at-most-same a b e = rw e (O.irreflexive b)
+  pub at_most_same : (a b : Of K) → a ≡ b → AtMost K a b
+  at_most_same a b e = rw e (O.irreflexive b)
 
-  pub higher-left : (a b : Of K) → AtMost K a (higher K a b)
+  pub higher_left : (a b : Of K) → AtMost K a (higher K a b)
   unfolding higher
-  higher-left a b = cond_both (K.below a b) b a (λ c. AtMost K a c) (λ h. O.one_way a b h) (λ h. O.irreflexive a)
+  higher_left a b = cond_both (K.below a b) b a (λ c. AtMost K a c) (λ h. O.one_way a b h) (λ h. O.irreflexive a)
 
-  pub higher-right : (a b : Of K) → AtMost K b (higher K a b)
+  pub higher_right : (a b : Of K) → AtMost K b (higher K a b)
   unfolding higher
-  higher-right a b = cond_both (K.below a b) b a (λ c. AtMost K b c) (λ h. O.irreflexive b) (λ h. h)
+  higher_right a b = cond_both (K.below a b) b a (λ c. AtMost K b c) (λ h. O.irreflexive b) (λ h. h)
 
   -- the higher of two is one of them: what holds of both holds of it
-  pub higher-both : (a b : Of K) (P : Of K → Type 0) → P a → P b → P (higher K a b)
+  pub higher_both : (a b : Of K) (P : Of K → Type 0) → P a → P b → P (higher K a b)
   unfolding higher
-  higher-both a b P h k = cond_both (K.below a b) b a P (λ _. k) (λ _. h)
+  higher_both a b P h k = cond_both (K.below a b) b a P (λ _. k) (λ _. h)
 
-  pub highest-over : (f : ℕ → Of K) (n i : ℕ) → i ≤ n → AtMost K (f i) (highest K f n)
+  pub highest_over : (f : ℕ → Of K) (n i : ℕ) → i ≤ n → AtMost K (f i) (highest K f n)
   unfolding highest
-  highest-over f zero i h = at-most-same (f i) (f 0) (ap f (omega arith))
-  highest-over f (suc n) i h =
+  highest_over f zero i h = at_most_same (f i) (f 0) (ap f (omega arith))
+  highest_over f (suc n) i h =
       elim (cases_lt i (suc n)) [
-        | inl l ↦ at-most-trans (f i) (highest K f n) _ (highest-over f n i (omega arith)) (higher-left _ _)
-        | inr l ↦ at-most-trans (f i) (f (suc n)) _ (at-most-same _ _ (ap f (omega arith))) (higher-right _ _)
+        | inl l ↦ at_most_trans (f i) (highest K f n) _ (highest_over f n i (omega arith)) (higher_left _ _)
+        | inr l ↦ at_most_trans (f i) (f (suc n)) _ (at_most_same _ _ (ap f (omega arith))) (higher_right _ _)
       ]
 
-  pub highest-all : (f : ℕ → Of K) (n : ℕ) (P : Of K → Type 0) → ((i : ℕ) → i ≤ n → P (f i)) → P (highest K f n)
+  pub highest_all : (f : ℕ → Of K) (n : ℕ) (P : Of K → Type 0) → ((i : ℕ) → i ≤ n → P (f i)) → P (highest K f n)
   unfolding highest
-  highest-all f zero P h = h 0 (omega arith)
-  highest-all f (suc n) P h = higher-both _ _ P (highest-all f n P (λ i l. h i (omega arith))) (h (suc n) (omega arith))
+  highest_all f zero P h = h 0 (omega arith)
+  highest_all f (suc n) P h = higher_both _ _ P (highest_all f n P (λ i l. h i (omega arith))) (h (suc n) (omega arith))
 
 module _ (K : Kind) (O : Lawful K) where
-  pub lowest-under : (f : ℕ → Of K) (n i : ℕ) → i ≤ n → AtMost K (lowest K f n) (f i)
-  lowest-under f n i h = rw turned_lowest (highest-over (turned K) (turned_lawful K O) f n i h)
+  pub lowest_under : (f : ℕ → Of K) (n i : ℕ) → i ≤ n → AtMost K (lowest K f n) (f i)
+  lowest_under f n i h = rw turned_lowest (highest_over (turned K) (turned_lawful K O) f n i h)
 
-  pub lowest-all : (f : ℕ → Of K) (n : ℕ) (P : Of K → Type 0) → ((i : ℕ) → i ≤ n → P (f i)) → P (lowest K f n)
-  lowest-all f n P h = rw turned_lowest (highest-all (turned K) (turned_lawful K O) f n P h)
+  pub lowest_all : (f : ℕ → Of K) (n : ℕ) (P : Of K → Type 0) → ((i : ℕ) → i ≤ n → P (f i)) → P (lowest K f n)
+  lowest_all f n P h = rw turned_lowest (highest_all (turned K) (turned_lawful K O) f n P h)

@@ -11,8 +11,8 @@ use Rattle.kinds.specs.Kinds.{Kind, Of, Lawful}
 use Rattle.transform.specs.Windows.{Record, Trace, trace}
 use Rattle.transform.specs.Pulses.{Pulse, pulses, covers, chosen, standing, size, summed, swing}
 use Rattle.transform.proofs.Sums.{numbered, flags, chosen_numbered}
-use Rattle.transform.proofs.Counts.{pulses-few}
-use Rattle.transform.proofs.Endings.{pulses-among}
+use Rattle.transform.proofs.Counts.{pulses_few}
+use Rattle.transform.proofs.Endings.{pulses_among}
 
 length_numbered : {A : Type 0} (xs : List A) (m : ℕ → Bool) → length (numbered m xs) ≤ length xs
 unfolding numbered
@@ -64,78 +64,78 @@ up_to_minus one b c e x y h k = bound_minus b c e x y h k
 up_to_minus two b c e x y h k = and_from _ _ (bound_minus b.0 c e x.0 y.0 (and_parts _ _ h).0 (and_parts _ _ k).0) (bound_minus b.1 c e x.1 y.1 (and_parts _ _ h).1 (and_parts _ _ k).1)
 
 module _ (K : Kind) (O : Lawful K) where
-  zero-up-to : (c : ℕ) → UpTo K.arity K.bound c (nought K.arity)
-  zero-up-to c = up_to_nought K.arity K.bound c
+  zero_up_to : (c : ℕ) → UpTo K.arity K.bound c (nought K.arity)
+  zero_up_to c = up_to_nought K.arity K.bound c
 
-  pub size-up-to : (c : ℕ) (x : Of K) → UpTo K.arity K.bound c x → UpTo K.arity K.bound c (size K x)
+  pub size_up_to : (c : ℕ) (x : Of K) → UpTo K.arity K.bound c x → UpTo K.arity K.bound c (size K x)
   unfolding size
-  size-up-to c x h =
+  size_up_to c x h =
       cond_both (K.below x (nought K.arity)) (minus K.arity (nought K.arity) x) x (λ v. UpTo K.arity K.bound c v)
-      (λ _. up_to_more K.arity K.bound (0 + c) c (minus K.arity (nought K.arity) x) (omega arith) (up_to_minus K.arity K.bound 0 c (nought K.arity) x (zero-up-to 0) h)) (λ _. h)
+      (λ _. up_to_more K.arity K.bound (0 + c) c (minus K.arity (nought K.arity) x) (omega arith) (up_to_minus K.arity K.bound 0 c (nought K.arity) x (zero_up_to 0) h)) (λ _. h)
 
   -- the sum of pulses whose amounts are up to c times the bound, and a sum over days
-  pub standing-up-to : (c : ℕ) (ps : List (Pulse K)) (d : ℕ) → All (λ p. UpTo K.arity K.bound c p.amount) ps → UpTo K.arity K.bound (length ps * c) (standing K ps d)
+  pub standing_up_to : (c : ℕ) (ps : List (Pulse K)) (d : ℕ) → All (λ p. UpTo K.arity K.bound c p.amount) ps → UpTo K.arity K.bound (length ps * c) (standing K ps d)
   unfolding standing
-  standing-up-to c [] d h = zero-up-to (0 * c)
-  standing-up-to c (p ∷ ps) d h =
+  standing_up_to c [] d h = zero_up_to (0 * c)
+  standing_up_to c (p ∷ ps) d h =
       up_to_more K.arity K.bound (c + length ps * c) (suc (length ps) * c) (standing K (p ∷ ps) d) (omega arith)
       (up_to_plus K.arity K.bound c (length ps * c) (cond (covers p d) p.amount (nought K.arity)) (standing K ps d)
-      (cond_both (covers p d) p.amount (nought K.arity) (λ v. UpTo K.arity K.bound c v) (λ _. h.0) (λ _. zero-up-to c))
-      (standing-up-to c ps d h.1))
+      (cond_both (covers p d) p.amount (nought K.arity) (λ v. UpTo K.arity K.bound c v) (λ _. h.0) (λ _. zero_up_to c))
+      (standing_up_to c ps d h.1))
 
-  pub summed-up-to : (c n : ℕ) (f : ℕ → Of K) → ((d : ℕ) → UpTo K.arity K.bound c (f d)) → UpTo K.arity K.bound (n * c) (summed K n f)
+  pub summed_up_to : (c n : ℕ) (f : ℕ → Of K) → ((d : ℕ) → UpTo K.arity K.bound c (f d)) → UpTo K.arity K.bound (n * c) (summed K n f)
   unfolding summed
-  summed-up-to c zero f h = zero-up-to (0 * c)
-  summed-up-to c (suc n) f h =
-      up_to_more K.arity K.bound (n * c + c) (suc n * c) (summed K (suc n) f) (omega arith) (up_to_plus K.arity K.bound (n * c) c (summed K n f) (f (suc n)) (summed-up-to c n f h) (h (suc n)))
+  summed_up_to c zero f h = zero_up_to (0 * c)
+  summed_up_to c (suc n) f h =
+      up_to_more K.arity K.bound (n * c + c) (suc n * c) (summed K (suc n) f) (omega arith) (up_to_plus K.arity K.bound (n * c) c (summed K n f) (f (suc n)) (summed_up_to c n f h) (h (suc n)))
 
   -- the swing of a trace whose totals are up to c times the bound
-  pub swing-up-to : (c n : ℕ) (x : Trace K) → ((d : ℕ) → UpTo K.arity K.bound c (x d)) → UpTo K.arity K.bound ((n + 1) * (c + c)) (swing K n x)
+  pub swing_up_to : (c n : ℕ) (x : Trace K) → ((d : ℕ) → UpTo K.arity K.bound c (x d)) → UpTo K.arity K.bound ((n + 1) * (c + c)) (swing K n x)
   unfolding swing
-  swing-up-to c n x h = summed-up-to (c + c) (n + 1) _ (λ d. size-up-to (c + c) (minus K.arity (x d) (x (d - 1))) (up_to_minus K.arity K.bound c c (x d) (x (d - 1)) (h d) (h (d - 1))))
+  swing_up_to c n x h = summed_up_to (c + c) (n + 1) _ (λ d. size_up_to (c + c) (minus K.arity (x d) (x (d - 1))) (up_to_minus K.arity K.bound c c (x d) (x (d - 1)) (h d) (h (d - 1))))
 
-  pub trace-up-to : (xs : Record K) → All (λ x. within K.arity K.bound x ≡ true) xs → (d : ℕ) → UpTo K.arity K.bound 1 (trace K xs d)
+  pub trace_up_to : (xs : Record K) → All (λ x. within K.arity K.bound x ≡ true) xs → (d : ℕ) → UpTo K.arity K.bound 1 (trace K xs d)
   unfolding trace
-  trace-up-to xs h zero = zero-up-to 1
-  trace-up-to xs h (suc d) = elim (cases_lt d (length xs)) [
+  trace_up_to xs h zero = zero_up_to 1
+  trace_up_to xs h (suc d) = elim (cases_lt d (length xs)) [
     | inl l ↦ up_to_bound K.arity K.bound (get_or xs d (nought K.arity)) (All-get_or (λ x. within K.arity K.bound x ≡ true) xs d (nought K.arity) l h)
-    | inr l ↦ rw (get_or_past xs d (nought K.arity) l) (zero-up-to 1)
+    | inr l ↦ rw (get_or_past xs d (nought K.arity) l) (zero_up_to 1)
   ]
 
   module _ (xs : Record K) (entered : All (λ x. within K.arity K.bound x ≡ true) xs) where
     -- amounts are up to twice the bounds,
-    pub amounts-up-to : All (λ p. UpTo K.arity K.bound 2 p.amount) (pulses K xs)
-    amounts-up-to =
+    pub amounts_up_to : All (λ p. UpTo K.arity K.bound 2 p.amount) (pulses K xs)
+    amounts_up_to =
         All-weaker _ _ (λ p (a, b, i, j, e). rw e (up_to_minus K.arity K.bound 1 1 a b i j)) _
-        (pulses-among K O (λ v. UpTo K.arity K.bound 1 v) xs (trace-up-to xs entered))
+        (pulses_among K O (λ v. UpTo K.arity K.bound 1 v) xs (trace_up_to xs entered))
 
     -- sums of some of the pulses up to twice the bounds for each day of the record
-    pub numbered-up-to : (m : ℕ → Bool) (d : ℕ) → UpTo K.arity K.bound (length xs * 2) (standing K (numbered m (pulses K xs)) d)
-    numbered-up-to m d =
+    pub numbered_up_to : (m : ℕ → Bool) (d : ℕ) → UpTo K.arity K.bound (length xs * 2) (standing K (numbered m (pulses K xs)) d)
+    numbered_up_to m d =
         up_to_more K.arity K.bound (length (numbered m (pulses K xs)) * 2) (length xs * 2) (standing K (numbered m (pulses K xs)) d)
-        (let h = length_numbered (pulses K xs) m in let k = pulses-few K O xs in omega arith)
-        (standing-up-to 2 (numbered m (pulses K xs)) d (all_numbered _ (pulses K xs) m amounts-up-to))
+        (let h = length_numbered (pulses K xs) m in let k = pulses_few K O xs in omega arith)
+        (standing_up_to 2 (numbered m (pulses K xs)) d (all_numbered _ (pulses K xs) m amounts_up_to))
 
     module _ (short : length xs ≤ 1000) where
       room : (c : ℕ) (x : Of K) → c ≤ 5000000 → UpTo K.arity K.bound c x → K.has x ≡ true
       room c x i k = O.roomy x (up_to_more K.arity K.bound c 5000000 x i k)
 
       -- so in a record of up to 1,000 days that may be entered every amount, every sum of some of the pulses and its swing is a value
-      pub amounts-in-range : All (λ p. K.has p.amount ≡ true) (pulses K xs)
-      amounts-in-range = All-weaker _ _ (λ p h. room 2 p.amount (omega arith) h) _ amounts-up-to
+      pub amounts_in_range : All (λ p. K.has p.amount ≡ true) (pulses K xs)
+      amounts_in_range = All-weaker _ _ (λ p h. room 2 p.amount (omega arith) h) _ amounts_up_to
 
-      pub sums-in-range : (m : ℕ → Bool) (d : ℕ) → K.has (standing K (numbered m (pulses K xs)) d) ≡ true
-      sums-in-range m d = room (length xs * 2) _ (omega arith) (numbered-up-to m d)
+      pub sums_in_range : (m : ℕ → Bool) (d : ℕ) → K.has (standing K (numbered m (pulses K xs)) d) ≡ true
+      sums_in_range m d = room (length xs * 2) _ (omega arith) (numbered_up_to m d)
 
-      pub swings-in-range : (m : ℕ → Bool) → K.has (swing K (length xs) (standing K (numbered m (pulses K xs)))) ≡ true
-      swings-in-range m =
+      pub swings_in_range : (m : ℕ → Bool) → K.has (swing K (length xs) (standing K (numbered m (pulses K xs)))) ≡ true
+      swings_in_range m =
           room ((length xs + 1) * (2000 + 2000)) _ (omega arith)
-          (swing-up-to 2000 (length xs) _ (λ d. up_to_more K.arity K.bound (length xs * 2) 2000 _ (omega arith) (numbered-up-to m d)))
+          (swing_up_to 2000 (length xs) _ (λ d. up_to_more K.arity K.bound (length xs * 2) 2000 _ (omega arith) (numbered_up_to m d)))
 
-  pub in-range : (xs : Record K) → length xs ≤ 1000 → All (λ x. within K.arity K.bound x ≡ true) xs →
+  pub in_range : (xs : Record K) → length xs ≤ 1000 → All (λ x. within K.arity K.bound x ≡ true) xs →
       All (λ p. K.has p.amount ≡ true) (pulses K xs) ×
       ((keep : Pulse K → Bool) → ((d : ℕ) → K.has (standing K (chosen keep (pulses K xs)) d) ≡ true) × (K.has (swing K (length xs) (standing K (chosen keep (pulses K xs)))) ≡ true))
-  in-range xs l h = (
-    amounts-in-range xs h l,
-    λ keep. rw (chosen_numbered keep (pulses K xs)) (sums-in-range xs h l (flags keep (pulses K xs)), swings-in-range xs h l (flags keep (pulses K xs))),
+  in_range xs l h = (
+    amounts_in_range xs h l,
+    λ keep. rw (chosen_numbered keep (pulses K xs)) (sums_in_range xs h l (flags keep (pulses K xs)), swings_in_range xs h l (flags keep (pulses K xs))),
   )

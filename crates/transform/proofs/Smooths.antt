@@ -9,8 +9,8 @@ use Rattle.kinds.specs.Columns.{nought}
 use Rattle.kinds.specs.Kinds.{Kind, Lawful}
 use Rattle.transform.specs.Windows.{Record, Trace, trace, days, L, U, lowered, raised, smooth}
 use Rattle.transform.specs.Theory.{turned}
-use Rattle.transform.proofs.Order.{Below, AtMost, turned_lawful, at-most-same, then-below, below_then, not_itself}
-use Rattle.transform.proofs.Windows.{Rise, Fall, Apart, turned_U, L-kept, L-apart, L-apart-turned}
+use Rattle.transform.proofs.Order.{Below, AtMost, turned_lawful, at_most_same, then_below, below_then, not_itself}
+use Rattle.transform.proofs.Windows.{Rise, Fall, Apart, turned_U, L_kept, L_apart, L_apart_turned}
 
 -- day 0 and each day after day n hold zero
 abbrev pub Outside : (K : Kind) → ℕ → Trace K → Type 0
@@ -34,41 +34,41 @@ trace_days K n x o = fun_ext day
 
 pub L_outside : (K : Kind) → Lawful K → (n m : ℕ) (x : Trace K) → Outside K m x → Outside K m (L K n x)
 L_outside K O n m x o = (
-  L-kept K O n x 0 n (omega arith) (λ k h. at-most-same K O _ _ (ap x (omega arith))) ∙ o.0,
-  λ d h. L-kept K O n x d 0 (omega arith) (λ k l. at-most-same K O _ _ (o.1 d h ∙ sym (o.1 ((d + k) - 0) (omega arith)))) ∙ o.1 d h,
+  L_kept K O n x 0 n (omega arith) (λ k h. at_most_same K O _ _ (ap x (omega arith))) ∙ o.0,
+  λ d h. L_kept K O n x d 0 (omega arith) (λ k l. at_most_same K O _ _ (o.1 d h ∙ sym (o.1 ((d + k) - 0) (omega arith)))) ∙ o.1 d h,
 )
 
 pub turned_U_all : (K : Kind) (n : ℕ) (x : Trace K) → U K n x ≡ L (turned K) n x
 turned_U_all K n x = fun_ext (turned_U K n x)
 
 module _ (K : Kind) (O : Lawful K) where
-  pub trace-lowered : (n : ℕ) (xs : Record K) → trace K (lowered K n xs) ≡ L K n (trace K xs)
+  pub trace_lowered : (n : ℕ) (xs : Record K) → trace K (lowered K n xs) ≡ L K n (trace K xs)
   unfolding lowered
-  trace-lowered n xs = trace_days K (length xs) _ (L_outside K O n (length xs) _ (trace_outside K xs))
+  trace_lowered n xs = trace_days K (length xs) _ (L_outside K O n (length xs) _ (trace_outside K xs))
 
-  pub trace-raised : (n : ℕ) (xs : Record K) → trace K (raised K n xs) ≡ L (turned K) n (trace K xs)
+  pub trace_raised : (n : ℕ) (xs : Record K) → trace K (raised K n xs) ≡ L (turned K) n (trace K xs)
   unfolding raised
-  trace-raised n xs =
+  trace_raised n xs =
       trace_days K (length xs) _ (rw (turned_U_all K n (trace K xs)) (L_outside (turned K) (turned_lawful K O) n (length xs) _ (trace_outside K xs))) ∙ turned_U_all K n (trace K xs)
 
-  pub length-lowered : (n : ℕ) (xs : Record K) → length (lowered K n xs) ≡ length xs
+  pub length_lowered : (n : ℕ) (xs : Record K) → length (lowered K n xs) ≡ length xs
   unfolding lowered days
-  length-lowered n xs = length-map-range_with_len _ 1 (length xs)
+  length_lowered n xs = length-map-range_with_len _ 1 (length xs)
 
-  pub length-raised : (n : ℕ) (xs : Record K) → length (raised K n xs) ≡ length xs
+  pub length_raised : (n : ℕ) (xs : Record K) → length (raised K n xs) ≡ length xs
   unfolding raised days
-  length-raised n xs = length-map-range_with_len _ 1 (length xs)
+  length_raised n xs = length-map-range_with_len _ 1 (length xs)
 
-  pub length-smooth : (n : ℕ) (xs : Record K) → length (smooth K n xs) ≡ length xs
+  pub length_smooth : (n : ℕ) (xs : Record K) → length (smooth K n xs) ≡ length xs
   unfolding smooth
-  length-smooth zero xs = refl
-  length-smooth (suc n) xs = length-raised _ _ ∙ length-lowered _ _ ∙ length-smooth n xs
+  length_smooth zero xs = refl
+  length_smooth (suc n) xs = length_raised _ _ ∙ length_lowered _ _ ∙ length_smooth n xs
 
   -- the smooth of width n has no bump and no pit of width n or less
-  pub smooth-apart : (n : ℕ) (xs : Record K) → Apart K (suc n) (trace K (smooth K n xs)) × Apart (turned K) (suc n) (trace K (smooth K n xs))
+  pub smooth_apart : (n : ℕ) (xs : Record K) → Apart K (suc n) (trace K (smooth K n xs)) × Apart (turned K) (suc n) (trace K (smooth K n xs))
   unfolding smooth
-  smooth-apart zero xs = (λ p q h r f. omega arith, λ p q h r f. omega arith)
-  smooth-apart (suc n) xs = next (smooth-apart n xs)
+  smooth_apart zero xs = (λ p q h r f. omega arith, λ p q h r f. omega arith)
+  smooth_apart (suc n) xs = next (smooth_apart n xs)
     where
       x : Trace K
       x = trace K (smooth K n xs)
@@ -78,17 +78,17 @@ module _ (K : Kind) (O : Lawful K) where
 
       next : Apart K (suc n) x × Apart (turned K) (suc n) x → Apart K (suc (suc n)) (trace K (smooth K (suc n) xs)) × Apart (turned K) (suc (suc n)) (trace K (smooth K (suc n) xs))
       next (bumps, pits) =
-          let Y = L-apart K O (suc n) x bumps (omega arith) in
-          let T = L-apart-turned K O (suc n) x bumps (suc n) pits in
-          rw (trace-raised (suc n) (lowered K (suc n) (smooth K n xs)), trace-lowered (suc n) (smooth K n xs))
-          (L-apart-turned (turned K) (turned_lawful K O) (suc n) y T (suc (suc n)) Y, L-apart (turned K) (turned_lawful K O) (suc n) y T (omega arith))
+          let Y = L_apart K O (suc n) x bumps (omega arith) in
+          let T = L_apart_turned K O (suc n) x bumps (suc n) pits in
+          rw (trace_raised (suc n) (lowered K (suc n) (smooth K n xs)), trace_lowered (suc n) (smooth K n xs))
+          (L_apart_turned (turned K) (turned_lawful K O) (suc n) y T (suc (suc n)) Y, L_apart (turned K) (turned_lawful K O) (suc n) y T (omega arith))
 
 -- where x falls from a day to a later one, it falls from a day to the next in between
 fall_between : (K : Kind) → Lawful K → (x : Trace K) (a n : ℕ) → Below K (x (a + n)) (x a) → (q : ℕ) × (a ≤ q) × (q < a + n) × Fall K x q
 fall_between K O x a zero h = absurd (not_itself K O _ _ (ap x (omega arith)) h)
 fall_between K O x a (suc n) h = elim (cases_Bool (K.below (x (suc (a + n))) (x (a + n)))) [
   | inl f ↦ (a + n, omega arith, omega arith, f)
-  | inr f ↦ further (fall_between K O x a n (then-below K O _ _ _ f (rw (let z : a + suc n ≡ suc (a + n) = omega arith in z) at h)))
+  | inr f ↦ further (fall_between K O x a n (then_below K O _ _ _ f (rw (let z : a + suc n ≡ suc (a + n) = omega arith in z) at h)))
 ]
   where
     further : ((q : ℕ) × (a ≤ q) × (q < a + n) × Fall K x q) → (q : ℕ) × (a ≤ q) × (q < a + suc n) × Fall K x q
@@ -123,10 +123,10 @@ pub apart_less : (K : Kind) (m n : ℕ) (x : Trace K) → m ≤ n → Apart K n 
 apart_less K m n x h A p q l r f = let z = A p q l r f in omega arith
 
 module _ (K : Kind) (O : Lawful K) where
-  pub smooth-outside : (n : ℕ) (xs : Record K) → Outside K (length xs) (trace K (smooth K n xs))
-  smooth-outside n xs = subst (λ m. Outside K m (trace K (smooth K n xs))) (length-smooth K O n xs) (trace_outside K (smooth K n xs))
+  pub smooth_outside : (n : ℕ) (xs : Record K) → Outside K (length xs) (trace K (smooth K n xs))
+  smooth_outside n xs = subst (λ m. Outside K m (trace K (smooth K n xs))) (length_smooth K O n xs) (trace_outside K (smooth K n xs))
 
   -- past the record's length the smooth is zero
-  pub smooth-flat : (n : ℕ) (xs : Record K) → length xs ≤ n → (d : ℕ) → trace K (smooth K n xs) d ≡ nought K.arity
-  smooth-flat n xs h d =
-      apart_flat K O (length xs) _ (smooth-outside n xs) (apart_less K _ _ _ (omega arith) (smooth-apart K O n xs).0) (apart_less (turned K) _ _ _ (omega arith) (smooth-apart K O n xs).1) d
+  pub smooth_flat : (n : ℕ) (xs : Record K) → length xs ≤ n → (d : ℕ) → trace K (smooth K n xs) d ≡ nought K.arity
+  smooth_flat n xs h d =
+      apart_flat K O (length xs) _ (smooth_outside n xs) (apart_less K _ _ _ (omega arith) (smooth_apart K O n xs).0) (apart_less (turned K) _ _ _ (omega arith) (smooth_apart K O n xs).1) d

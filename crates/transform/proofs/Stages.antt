@@ -9,8 +9,8 @@ use Rattle.transform.specs.Windows.{Record, trace, lowered, smooth}
 use Rattle.transform.specs.Pulses.{Pulse, in_turn, upward, downward, pulses, chosen, standing}
 use Rattle.transform.specs.Theory.{turned, Regular}
 use Rattle.transform.proofs.Order.{Below, turned_lawful}
-use Rattle.transform.proofs.Windows.{L-apart-turned}
-use Rattle.transform.proofs.Smooths.{trace-lowered, trace-raised, length-smooth, length-lowered, smooth-apart, smooth-flat}
+use Rattle.transform.proofs.Windows.{L_apart_turned}
+use Rattle.transform.proofs.Smooths.{trace_lowered, trace_raised, length_smooth, length_lowered, smooth_apart, smooth_flat}
 use Rattle.transform.proofs.Group.{plus_assoc, plus_nought, nought_plus}
 use Rattle.transform.proofs.Levels.{Levels}
 use Rattle.transform.proofs.Listing.{Pass, changes_level, changes_regular}
@@ -22,45 +22,45 @@ stage K xs n = upward K xs n ++ downward K xs n
 
 module _ (K : Kind) (O : Lawful K) (xs : Record K) (n : ℕ) where
   -- the two passes of a width
-  pub upward-pass : Pass K K.below (suc n) (smooth K n xs) (lowered K (suc n) (smooth K n xs))
-  upward-pass = record { lawful = O; some = omega arith; apart = (smooth-apart K O n xs).0; levels = trace-lowered K O (suc n) _ }
+  pub upward_pass : Pass K K.below (suc n) (smooth K n xs) (lowered K (suc n) (smooth K n xs))
+  upward_pass = record { lawful = O; some = omega arith; apart = (smooth_apart K O n xs).0; levels = trace_lowered K O (suc n) _ }
 
-  pub downward-pass : Pass K (turned K).below (suc n) (lowered K (suc n) (smooth K n xs)) (smooth K (suc n) xs)
+  pub downward_pass : Pass K (turned K).below (suc n) (lowered K (suc n) (smooth K n xs)) (smooth K (suc n) xs)
   unfolding smooth
-  downward-pass = record {
+  downward_pass = record {
     lawful = turned_lawful K O;
     some = omega arith;
-    apart = rw (trace-lowered K O (suc n) (smooth K n xs)) (L-apart-turned K O (suc n) _ (smooth-apart K O n xs).0 (suc n) (smooth-apart K O n xs).1);
-    levels = trace-raised K O (suc n) _;
+    apart = rw (trace_lowered K O (suc n) (smooth K n xs)) (L_apart_turned K O (suc n) _ (smooth_apart K O n xs).0 (suc n) (smooth_apart K O n xs).1);
+    levels = trace_raised K O (suc n) _;
   }
 
-  pub upward-level : Levels K (trace K (smooth K n xs)) (upward K xs (suc n)) (trace K (lowered K (suc n) (smooth K n xs)))
+  pub upward_level : Levels K (trace K (smooth K n xs)) (upward K xs (suc n)) (trace K (lowered K (suc n) (smooth K n xs)))
   unfolding upward
-  upward-level = changes_level K O K.below (suc n) _ _ upward-pass (λ x q w v S. inl S)
+  upward_level = changes_level K O K.below (suc n) _ _ upward_pass (λ x q w v S. inl S)
 
-  pub downward-level : Levels K (trace K (lowered K (suc n) (smooth K n xs))) (downward K xs (suc n)) (trace K (smooth K (suc n) xs))
+  pub downward_level : Levels K (trace K (lowered K (suc n) (smooth K n xs))) (downward K xs (suc n)) (trace K (smooth K (suc n) xs))
   unfolding downward
-  downward-level = changes_level K O (turned K).below (suc n) _ _ downward-pass (λ x q w v S. inr S)
+  downward_level = changes_level K O (turned K).below (suc n) _ _ downward_pass (λ x q w v S. inr S)
 
-  pub stage-level : Levels K (trace K (smooth K n xs)) (stage K xs (suc n)) (trace K (smooth K (suc n) xs))
-  stage-level = levels_append K (upward K xs (suc n)) (downward K xs (suc n)) _ _ _ upward-level downward-level
+  pub stage_level : Levels K (trace K (smooth K n xs)) (stage K xs (suc n)) (trace K (smooth K (suc n) xs))
+  stage_level = levels_append K (upward K xs (suc n)) (downward K xs (suc n)) _ _ _ upward_level downward_level
 
-  pub upward-regular : All (λ p. Regular K (length xs) (suc n) (trace K (smooth K n xs)) (trace K (lowered K (suc n) (smooth K n xs))) p × Below K (nought K.arity) p.amount) (upward K xs (suc n))
+  pub upward_regular : All (λ p. Regular K (length xs) (suc n) (trace K (smooth K n xs)) (trace K (lowered K (suc n) (smooth K n xs))) p × Below K (nought K.arity) p.amount) (upward K xs (suc n))
   unfolding upward
-  upward-regular =
+  upward_regular =
       subst (λ m. All (λ p. Regular K m (suc n) (trace K (smooth K n xs)) (trace K (lowered K (suc n) (smooth K n xs))) p × Below K (nought K.arity) p.amount) (upward K xs (suc n)))
-      (length-smooth K O n xs)
-      (changes_regular K O K.below (suc n) _ _ upward-pass)
+      (length_smooth K O n xs)
+      (changes_regular K O K.below (suc n) _ _ upward_pass)
 
-  pub downward-regular : All (λ p. Regular K (length xs) (suc n) (trace K (lowered K (suc n) (smooth K n xs))) (trace K (smooth K (suc n) xs)) p × Below K p.amount (nought K.arity)) (downward K xs (suc n))
+  pub downward_regular : All (λ p. Regular K (length xs) (suc n) (trace K (lowered K (suc n) (smooth K n xs))) (trace K (smooth K (suc n) xs)) p × Below K p.amount (nought K.arity)) (downward K xs (suc n))
   unfolding downward
-  downward-regular =
+  downward_regular =
       subst (λ m. All (λ p. Regular K m (suc n) (trace K (lowered K (suc n) (smooth K n xs))) (trace K (smooth K (suc n) xs)) p × Below K p.amount (nought K.arity)) (downward K xs (suc n)))
-      (length-lowered K O (suc n) (smooth K n xs) ∙ length-smooth K O n xs)
-      (changes_regular K O (turned K).below (suc n) _ _ downward-pass)
+      (length_lowered K O (suc n) (smooth K n xs) ∙ length_smooth K O n xs)
+      (changes_regular K O (turned K).below (suc n) _ _ downward_pass)
 
-  pub stage-width : All (λ p. p.width ≡ suc n) (stage K xs (suc n))
-  stage-width = All-append _ (upward K xs (suc n)) (downward K xs (suc n)) (All-weaker _ _ (λ p h. h.0.wide) _ upward-regular) (All-weaker _ _ (λ p h. h.0.wide) _ downward-regular)
+  pub stage_width : All (λ p. p.width ≡ suc n) (stage K xs (suc n))
+  stage_width = All-append _ (upward K xs (suc n)) (downward K xs (suc n)) (All-weaker _ _ (λ p h. h.0.wide) _ upward_regular) (All-weaker _ _ (λ p h. h.0.wide) _ downward_regular)
 
 -- what is chosen of two lists one after the other, of a list all of which is chosen, or none
 pub chosen_append : {A : Type 0} (test : A → Bool) (ps qs : List A) → chosen test (ps ++ qs) ≡ chosen test ps ++ chosen test qs
@@ -79,17 +79,17 @@ chosen_none test [] h = refl
 chosen_none test (p ∷ ps) h = cond-false _ _ _ h.0 ∙ chosen_none test ps h.1
 
 module _ (K : Kind) (O : Lawful K) (xs : Record K) where
-  pub upto-level : (c : ℕ) → Levels K (trace K xs) (in_turn c (stage K xs)) (trace K (smooth K c xs))
+  pub upto_level : (c : ℕ) → Levels K (trace K xs) (in_turn c (stage K xs)) (trace K (smooth K c xs))
   unfolding in_turn smooth
-  upto-level zero = refl
-  upto-level (suc c) = levels_append K (in_turn c (stage K xs)) (stage K xs (suc c)) _ _ _ (upto-level c) (stage-level K O xs c)
+  upto_level zero = refl
+  upto_level (suc c) = levels_append K (in_turn c (stage K xs)) (stage K xs (suc c)) _ _ _ (upto_level c) (stage_level K O xs c)
 
-  pub pulses-level : Levels K (trace K xs) (pulses K xs) (trace K (smooth K (length xs) xs))
+  pub pulses_level : Levels K (trace K xs) (pulses K xs) (trace K (smooth K (length xs) xs))
   unfolding pulses
-  pulses-level = upto-level (length xs)
+  pulses_level = upto_level (length xs)
 
-  pub pulses-sum : (d : ℕ) → standing K (pulses K xs) d ≡ trace K xs d
-  pulses-sum d = sym (levels_sum K (pulses K xs) _ _ pulses-level d ∙ rw (smooth-flat K O (length xs) xs (omega arith) d) (plus_nought _ _))
+  pub pulses_sum : (d : ℕ) → standing K (pulses K xs) d ≡ trace K xs d
+  pulses_sum d = sym (levels_sum K (pulses K xs) _ _ pulses_level d ∙ rw (smooth_flat K O (length xs) xs (omega arith) d) (plus_nought _ _))
 
   -- no pulse of a width up to w is wider than w,
   narrow : (w c : ℕ) → c ≤ w → chosen (λ p. ltb w p.width) (in_turn c (stage K xs)) ≡ []
@@ -97,7 +97,7 @@ module _ (K : Kind) (O : Lawful K) (xs : Record K) where
   narrow w zero h = refl
   narrow w (suc c) h =
       chosen_append (λ p. ltb w p.width) (in_turn c (stage K xs)) (stage K xs (suc c)) ∙
-      rw (narrow w c (omega arith)) (chosen_none _ _ (All-weaker _ _ (λ p e. le-ltb w p.width (omega arith)) _ (stage-width K O xs c)))
+      rw (narrow w c (omega arith)) (chosen_none _ _ (All-weaker _ _ (λ p e. le-ltb w p.width (omega arith)) _ (stage_width K O xs c)))
 
   -- and those of the next k widths take the smooth of width w to that of width w + k
   wider : (w k d : ℕ) → plus K.arity (standing K (chosen (λ p. ltb w p.width) (in_turn (k + w) (stage K xs))) d) (trace K (smooth K (k + w) xs) d) ≡ trace K (smooth K w xs) d
@@ -107,18 +107,18 @@ module _ (K : Kind) (O : Lawful K) (xs : Record K) where
       rw (
         let z : suc k + w ≡ suc (k + w) = omega arith in z,
         chosen_append (λ p. ltb w p.width) (in_turn (k + w) (stage K xs)) (stage K xs (suc (k + w))),
-        chosen_all (λ p. ltb w p.width) (stage K xs (suc (k + w))) (All-weaker _ _ (λ p e. lt-ltb w p.width (omega arith)) _ (stage-width K O xs (k + w))),
+        chosen_all (λ p. ltb w p.width) (stage K xs (suc (k + w))) (All-weaker _ _ (λ p e. lt-ltb w p.width (omega arith)) _ (stage_width K O xs (k + w))),
         standing_append K (chosen (λ p. ltb w p.width) (in_turn (k + w) (stage K xs))) (stage K xs (suc (k + w))) d,
         plus_assoc,
-        ← (levels_sum K (stage K xs (suc (k + w))) _ _ (stage-level K O xs (k + w)) d),
+        ← (levels_sum K (stage K xs (suc (k + w))) _ _ (stage_level K O xs (k + w)) d),
       )
       (wider w k d)
 
-  pub wider-sum : (w d : ℕ) → standing K (chosen (λ p. ltb w p.width) (pulses K xs)) d ≡ trace K (smooth K w xs) d
+  pub wider_sum : (w d : ℕ) → standing K (chosen (λ p. ltb w p.width) (pulses K xs)) d ≡ trace K (smooth K w xs) d
   unfolding pulses
-  wider-sum w d = elim (cases_lt w (length xs)) [
+  wider_sum w d = elim (cases_lt w (length xs)) [
     | inl h ↦
         let e : (length xs - w) + w ≡ length xs = omega arith in
-        sym (plus_nought _ _) ∙ (rw (e, smooth-flat K O (length xs) xs (omega arith) d) at (wider w (length xs - w) d))
-    | inr h ↦ rw (narrow w (length xs) h, standing_none K d) (sym (smooth-flat K O w xs h d))
+        sym (plus_nought _ _) ∙ (rw (e, smooth_flat K O (length xs) xs (omega arith) d) at (wider w (length xs - w) d))
+    | inr h ↦ rw (narrow w (length xs) h, standing_none K d) (sym (smooth_flat K O w xs h d))
   ]

@@ -5,8 +5,8 @@ use Rattle.kinds.specs.Columns.{nought, plus}
 use Rattle.kinds.specs.Kinds.{Kind, Lawful}
 use Rattle.transform.specs.Windows.{Trace}
 use Rattle.transform.specs.Pulses.{Pulse, covers, chosen, standing}
-use Rattle.transform.proofs.Order.{at-most-same}
-use Rattle.transform.proofs.Group.{plus_assoc, plus_comm, plus_minus, plus_cancel, nought_plus, plus-at-most}
+use Rattle.transform.proofs.Order.{at_most_same}
+use Rattle.transform.proofs.Group.{plus_assoc, plus_comm, plus_minus, plus_cancel, nought_plus, plus_at_most}
 use Rattle.transform.proofs.Levels.{block, cut, Levels, Follows, Step, either_step}
 
 -- what a pulse holds on each day
@@ -57,9 +57,9 @@ chosen_not_numbered test [] = refl
 chosen_not_numbered test (a ∷ rest) = ap (λ l. cond (not (test a)) (a ∷ l) l) (chosen_not_numbered test rest)
 
 module _ (K : Kind) (m : ℕ → Bool) (p : Pulse K) (ps : List (Pulse K)) (d : ℕ) where
-  pub standing-with : m 0 ≡ true → standing K (numbered m (p ∷ ps)) d ≡ plus K.arity (shape K p d) (standing K (numbered (λ k. m (suc k)) ps) d)
+  pub standing_with : m 0 ≡ true → standing K (numbered m (p ∷ ps)) d ≡ plus K.arity (shape K p d) (standing K (numbered (λ k. m (suc k)) ps) d)
   unfolding numbered
-  standing-with e = ap (λ l. standing K l d) (cond-true _ _ _ e) ∙ standing_more K p _ d
+  standing_with e = ap (λ l. standing K l d) (cond-true _ _ _ e) ∙ standing_more K p _ d
 
   pub standing_without : m 0 ≡ false → standing K (numbered m (p ∷ ps)) d ≡ standing K (numbered (λ k. m (suc k)) ps) d
   unfolding numbered
@@ -67,22 +67,22 @@ module _ (K : Kind) (m : ℕ → Bool) (p : Pulse K) (ps : List (Pulse K)) (d : 
 
 module _ (K : Kind) (O : Lawful K) where
   -- whatever pulses are chosen, their sum rises and falls only where the trace does
-  pub levels-follows : (m : ℕ → Bool) (ps : List (Pulse K)) (x z : Trace K) → Levels K x ps z → Follows K x (standing K (numbered m ps))
+  pub levels_follows : (m : ℕ → Bool) (ps : List (Pulse K)) (x z : Trace K) → Levels K x ps z → Follows K x (standing K (numbered m ps))
   unfolding numbered standing
-  levels-follows m [] x z e b = (λ _. O.irreflexive _, λ _. O.irreflexive _)
-  levels-follows m (p ∷ ps) x z (q, f, s, k) b =
+  levels_follows m [] x z e b = (λ _. O.irreflexive _, λ _. O.irreflexive _)
+  levels_follows m (p ∷ ps) x z (q, f, s, k) b =
       let S = either_step K O x q p.width p.amount s in
-      let F = levels-follows (λ k. m (suc k)) ps _ z k b in
+      let F = levels_follows (λ k. m (suc k)) ps _ z k b in
       elim (cases_Bool (m 0)) [
-        | inl e ↦ rw (standing-with K m p ps b e, standing-with K m p ps (suc b) e, f)
-            (λ n. plus-at-most K O _ _ _ _ ((S.taken b).0 n) (F.0 ((S.left b).0 n)), λ n. plus-at-most K O _ _ _ _ ((S.taken b).1 n) (F.1 ((S.left b).1 n)))
+        | inl e ↦ rw (standing_with K m p ps b e, standing_with K m p ps (suc b) e, f)
+            (λ n. plus_at_most K O _ _ _ _ ((S.taken b).0 n) (F.0 ((S.left b).0 n)), λ n. plus_at_most K O _ _ _ _ ((S.taken b).1 n) (F.1 ((S.left b).1 n)))
         | inr e ↦ rw (standing_without K m p ps b e, standing_without K m p ps (suc b) e)
             (λ n. F.0 ((S.left b).0 n), λ n. F.1 ((S.left b).1 n))
       ]
 
   -- what follows a trace does not move where that does not
-  pub follows-still : (x s : Trace K) → Follows K x s → (b : ℕ) → x (suc b) ≡ x b → s (suc b) ≡ s b
-  follows-still x s F b e = O.tight _ _ ((F b).1 (at-most-same K O _ _ (sym e))) ((F b).0 (at-most-same K O _ _ e))
+  pub follows_still : (x s : Trace K) → Follows K x s → (b : ℕ) → x (suc b) ≡ x b → s (suc b) ≡ s b
+  follows_still x s F b e = O.tight _ _ ((F b).1 (at_most_same K O _ _ (sym e))) ((F b).0 (at_most_same K O _ _ e))
 
   -- the first pulse has an edge at which no later one has an edge, so no choice makes up for it
   missed : (m m' : ℕ → Bool) (p : Pulse K) (ps : List (Pulse K)) (x z : Trace K) → Levels K x (p ∷ ps) z → m 0 ≡ true → m' 0 ≡ false →
@@ -100,20 +100,20 @@ module _ (K : Kind) (O : Lawful K) where
       t' = standing K (numbered (λ k. m' (suc k)) ps)
 
       day : (d : ℕ) → plus K.arity (t d) (block K.arity (suc q) p.width p.amount d) ≡ t' d
-      day d = plus_comm _ _ _ ∙ rw (← f) (sym (standing-with K m p ps d e) ∙ E d ∙ standing_without K m' p ps d e')
+      day d = plus_comm _ _ _ ∙ rw (← f) (sym (standing_with K m p ps d e) ∙ E d ∙ standing_without K m' p ps d e')
 
       moved : (b : ℕ) → cut K.arity x (suc q) p.width p.amount (suc b) ≡ cut K.arity x (suc q) p.width p.amount b →
           block K.arity (suc q) p.width p.amount (suc b) ≡ block K.arity (suc q) p.width p.amount b
       moved b h =
           plus_cancel K.arity (t b) _ _
-          (ap (λ a. plus K.arity a (block K.arity (suc q) p.width p.amount (suc b))) (sym (follows-still _ t (levels-follows (λ k. m (suc k)) ps _ z k) b h)) ∙
-          day (suc b) ∙ follows-still _ t' (levels-follows (λ k. m' (suc k)) ps _ z k) b h ∙ sym (day b))
+          (ap (λ a. plus K.arity a (block K.arity (suc q) p.width p.amount (suc b))) (sym (follows_still _ t (levels_follows (λ k. m (suc k)) ps _ z k) b h)) ∙
+          day (suc b) ∙ follows_still _ t' (levels_follows (λ k. m' (suc k)) ps _ z k) b h ∙ sym (day b))
 
   -- so choices with equal sums are the same choice
-  pub levels-differ : (ps : List (Pulse K)) (m m' : ℕ → Bool) (x z : Trace K) → Levels K x ps z →
+  pub levels_differ : (ps : List (Pulse K)) (m m' : ℕ → Bool) (x z : Trace K) → Levels K x ps z →
       ((d : ℕ) → standing K (numbered m ps) d ≡ standing K (numbered m' ps) d) → (k : ℕ) → k < length ps → m k ≡ m' k
-  levels-differ [] m m' x z l E k h = absurd (let z : k < 0 = h in omega arith)
-  levels-differ (p ∷ ps) m m' x z l E k h = at (levels-differ ps (λ k. m (suc k)) (λ k. m' (suc k)) _ z l.3 rest) k h
+  levels_differ [] m m' x z l E k h = absurd (let z : k < 0 = h in omega arith)
+  levels_differ (p ∷ ps) m m' x z l E k h = at (levels_differ ps (λ k. m (suc k)) (λ k. m' (suc k)) _ z l.3 rest) k h
     where
       first : m 0 ≡ m' 0
       first = elim (cases_Bool (m 0)) [
@@ -123,7 +123,7 @@ module _ (K : Kind) (O : Lawful K) where
 
       rest : (d : ℕ) → standing K (numbered (λ k. m (suc k)) ps) d ≡ standing K (numbered (λ k. m' (suc k)) ps) d
       rest d = elim (cases_Bool (m 0)) [
-        | inl e ↦ plus_cancel K.arity (shape K p d) _ _ (sym (standing-with K m p ps d e) ∙ E d ∙ standing-with K m' p ps d (sym first ∙ e))
+        | inl e ↦ plus_cancel K.arity (shape K p d) _ _ (sym (standing_with K m p ps d e) ∙ E d ∙ standing_with K m' p ps d (sym first ∙ e))
         | inr e ↦ sym (standing_without K m p ps d e) ∙ E d ∙ standing_without K m' p ps d (sym first ∙ e)
       ]
 

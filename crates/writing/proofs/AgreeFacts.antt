@@ -9,7 +9,7 @@ use Rattle.reading.specs.Traces.{read_text}
 use Rattle.writing.specs.Laws.{TextsAgree}
 use Rattle.writing.specs.Texts.{trace_text, not_entered, unless_day, write_record}
 use Rattle.reading.proofs.AcceptedFacts.{never, cond_not_ok, reading_accepted}
-use Rattle.writing.proofs.BackText.{text-back}
+use Rattle.writing.proofs.BackText.{text_back}
 
 pub unless_day_ok : {X : Type 0} (o : Option ℕ) (r : Result X Refusal) (x : X) → unless_day o r ≡ Ok x → (o ≡ None) × (r ≡ Ok x)
 unless_day_ok None r x h = (refl, h)
@@ -22,7 +22,7 @@ writing_back K L size room xs text h fits =
     let d = unless_day_ok (not_entered K 1 xs) _ text q.1 in
     let r = cond_not_ok (ltb size (length (trace_text K xs))) (Ok (trace_text K xs)) _ text d.1 in
     let same : trace_text K xs ≡ text = cc r.1 in
-    ap (read_text K room) (sym same) ∙ text-back K L p.0 xs room (ltb-false 1000 (length xs) q.0) d.0 fits
+    ap (read_text K room) (sym same) ∙ text_back K L p.0 xs room (ltb-false 1000 (length xs) q.0) d.0 fits
 
 pub texts_agree : TextsAgree
 texts_agree = record { accepted = reading_accepted; back = writing_back }

@@ -112,18 +112,18 @@ module _ (K : Kind) (L : Lawful K) (apart : twins K.arity K.names ≡ false) whe
   small : (x : Of K) → within K.arity K.bound x ≡ true → Small K.arity x
   small x w = within_small K.arity K.bound x (bound_small K.arity K.bound K.has L.roomy L.fitting) w
 
-  pub line-back : (d at : ℕ) (x : Of K) → d ≤ 1000 → within K.arity K.bound x ≡ true → read_line K (names_of K.arity K.names) d at (texts_of K.arity d x) ≡ Ok x
-  line-back d at x l w =
+  pub line_back : (d at : ℕ) (x : Of K) → d ≤ 1000 → within K.arity K.bound x ≡ true → read_line K (names_of K.arity K.names) d at (texts_of K.arity d x) ≡ Ok x
+  line_back d at x l w =
       let s = small x w in
       let checked = check_good (names_of K.arity K.names) (texts_of K.arity d x) d at (as_many K.arity K.names d x) (all_figures K.arity d x at (omega arith) s) (day_back K.arity K.names d x (omega arith)) l in
       let held = L.roomy x (within_more K.arity K.bound x w) in
       ap (λ (c : Result (Unit {0}) Finding). then c (entered K (columns_under K.arity K.names (names_of K.arity K.names) (texts_of K.arity d x)) (refuse 2 (d + 1) at))) checked
       ∙ entered_good K x _ _ (columns_back K.arity K.names apart d x s) held w
 
-  pub days-back : (d at : ℕ) (xs : List (Of K)) → d + length xs ≤ 1001 → not_entered K d xs ≡ None → read_lines K (names_of K.arity K.names) d at (lines (trace_lines K d xs)) ≡ Ok xs
+  pub days_back : (d at : ℕ) (xs : List (Of K)) → d + length xs ≤ 1001 → not_entered K d xs ≡ None → read_lines K (names_of K.arity K.names) d at (lines (trace_lines K d xs)) ≡ Ok xs
   unfolding trace_values
-  days-back d at [] l h = refl
-  days-back d at (x ∷ xs) l h =
+  days_back d at [] l h = refl
+  days_back d at (x ∷ xs) l h =
       let names : List (List ℕ) = names_of K.arity K.names in
       let p = entered_parts K d x xs h in
       let s = small x p.0 in
@@ -132,23 +132,23 @@ module _ (K : Kind) (L : Lawful K) (apart : twins K.arity K.names ≡ false) whe
       let this : List ℕ = body shown (Count d) (map Amount (Texts.column_list K x)) in
       let cut : lines (line shown (day_values K.arity d x) ++ rest) ≡ this ∷ lines rest = line_first shown (Count d) (map Amount (Texts.column_list K x)) rest clean in
       let parts : fields this ≡ texts_of K.arity d x = body_fields shown (Count d) (map Amount (Texts.column_list K x)) clean in
-      let read : read_line K names d at (fields this) ≡ Ok x = ap (read_line K names d at) parts ∙ line-back d at x (omega arith) p.0 in
-      let more = days-back (d + 1) (at + (length this + 1)) xs (omega arith) p.1 in
+      let read : read_line K names d at (fields this) ≡ Ok x = ap (read_line K names d at) parts ∙ line_back d at x (omega arith) p.0 in
+      let more = days_back (d + 1) (at + (length this + 1)) xs (omega arith) p.1 in
       ap (read_lines K names d at) cut ∙ rw (some_not_none (lines rest) (parts_some 10 rest), read, more) refl
 
-  pub lines-short : (d : ℕ) (xs : List (Of K)) → d + length xs ≤ 1001 → not_entered K d xs ≡ None → length (trace_lines K d xs) ≤ 35 * length xs
+  pub lines_short : (d : ℕ) (xs : List (Of K)) → d + length xs ≤ 1001 → not_entered K d xs ≡ None → length (trace_lines K d xs) ≤ 35 * length xs
   unfolding trace_values
-  lines-short d [] l h = omega arith
-  lines-short d (x ∷ xs) l h =
+  lines_short d [] l h = omega arith
+  lines_short d (x ∷ xs) l h =
       let p = entered_parts K d x xs h in
       let this = day_short K.arity d x (omega arith) (small x p.0) in
-      let more = lines-short (d + 1) xs (omega arith) p.1 in
+      let more = lines_short (d + 1) xs (omega arith) p.1 in
       let both = length-append (line shown (day_values K.arity d x)) (trace_lines K (d + 1) xs) in
       omega arith
 
-  pub text-back : (xs : List (Of K)) (room : ℕ) → length xs ≤ 1000 → not_entered K 1 xs ≡ None → length xs ≤ room → read_text K room (trace_text K xs) ≡ Ok xs
+  pub text_back : (xs : List (Of K)) (room : ℕ) → length xs ≤ 1000 → not_entered K 1 xs ≡ None → length xs ≤ room → read_text K room (trace_text K xs) ≡ Ok xs
   unfolding trace_headings
-  text-back xs room l h r =
+  text_back xs room l h r =
       let names : List (List ℕ) = names_of K.arity K.names in
       let columns : List Heading = column_headings K.arity K.names in
       let rest : List ℕ = trace_lines K 1 xs in
@@ -159,11 +159,11 @@ module _ (K : Kind) (L : Lawful K) (apart : twins K.arity K.names ≡ false) whe
       let known = names_known K.arity K.names apart in
       let short : length (trace_text K xs) ≤ 40000 =
       let a = names_short K.arity K.names in
-      let b = lines-short 1 xs (omega arith) h in
+      let b = lines_short 1 xs (omega arith) h in
       let c = length-append (line letters (Day ∷ columns)) rest in
       omega arith in
       let some = some_not_none (lines rest) (parts_some 10 rest) in
-      let good : read_all K (lines (trace_text K xs)) ≡ Ok xs = ap (read_all K) cut ∙ all_good K this (lines rest) names xs parts some known.0 known.1 (days-back 1 (length this + 1) xs (omega arith) h) in
+      let good : read_all K (lines (trace_text K xs)) ≡ Ok xs = ap (read_all K) cut ∙ all_good K this (lines rest) names xs parts some known.0 known.1 (days_back 1 (length this + 1) xs (omega arith) h) in
       rw (apart, le-ltb 40000 (length (trace_text K xs)) short, good, le-ltb room (length xs) r) refl
 
 -- the same of the bytes in the buffer
@@ -171,4 +171,4 @@ pub written_back : (K : Kind) → Lawful K → twins K.arity K.names ≡ false �
 written_back K L apart xs room before after bytes few entered fits w =
     let size : length (trace_text K xs) ≡ bytes = omega (arith, w.1) in
     let taken : take bytes after ≡ trace_text K xs = ap (take bytes) w.0 ∙ take_at (trace_text K xs) (drop (0 + length (trace_text K xs)) before) bytes size in
-    ap (read_text K room) taken ∙ text-back K L apart xs room (ltb-false 1000 (length xs) few) (sym entered) fits
+    ap (read_text K room) taken ∙ text_back K L apart xs room (ltb-false 1000 (length xs) few) (sym entered) fits

@@ -13,33 +13,33 @@ module _ {V : Type 0} (K : Kind) (columns : V → Of K) where
   pub one_day : (xs : List V) (i : ℕ) (x : V) → i < length xs → x ≡ get_or xs i x → map columns (drop i xs) ≡ columns x ∷ map columns (drop (i + 1) xs)
   one_day xs i x h e = ap (map columns) (drop_more xs i x h ∙ ap (λ y. y ∷ drop (i + 1) xs) (sym e))
 
-  pub no-day : (xs : List V) (i : ℕ) → length xs ≤ i → map columns (drop i xs) ≡ []
-  no-day xs i h = ap (map columns) (drop_all i xs h)
+  pub no_day : (xs : List V) (i : ℕ) → length xs ≤ i → map columns (drop i xs) ≡ []
+  no_day xs i h = ap (map columns) (drop_all i xs h)
 
-  pub lines-of-day : (day : ℕ) (xs : List V) (i : ℕ) (x : V) → i < length xs → x ≡ get_or xs i x → trace_lines K day (map columns (drop i xs)) ≡ line shown (trace_values K day (columns x)) ++ trace_lines K (day + 1) (map columns (drop (i + 1) xs))
-  lines-of-day day xs i x h e = ap (trace_lines K day) (one_day xs i x h e)
+  pub lines_of_day : (day : ℕ) (xs : List V) (i : ℕ) (x : V) → i < length xs → x ≡ get_or xs i x → trace_lines K day (map columns (drop i xs)) ≡ line shown (trace_values K day (columns x)) ++ trace_lines K (day + 1) (map columns (drop (i + 1) xs))
+  lines_of_day day xs i x h e = ap (trace_lines K day) (one_day xs i x h e)
 
-  pub length-of-day : (day : ℕ) (xs : List V) (i : ℕ) (x : V) → i < length xs → x ≡ get_or xs i x → length (trace_lines K day (map columns (drop i xs))) ≡ length (line shown (trace_values K day (columns x))) + length (trace_lines K (day + 1) (map columns (drop (i + 1) xs)))
-  length-of-day day xs i x h e =
-      ap length (lines-of-day day xs i x h e) ∙ length-append (line shown (trace_values K day (columns x))) (trace_lines K (day + 1) (map columns (drop (i + 1) xs)))
+  pub length_of_day : (day : ℕ) (xs : List V) (i : ℕ) (x : V) → i < length xs → x ≡ get_or xs i x → length (trace_lines K day (map columns (drop i xs))) ≡ length (line shown (trace_values K day (columns x))) + length (trace_lines K (day + 1) (map columns (drop (i + 1) xs)))
+  length_of_day day xs i x h e =
+      ap length (lines_of_day day xs i x h e) ∙ length-append (line shown (trace_values K day (columns x))) (trace_lines K (day + 1) (map columns (drop (i + 1) xs)))
 
   pub no_lines : (day : ℕ) (xs : List V) (i : ℕ) → length xs ≤ i → trace_lines K day (map columns (drop i xs)) ≡ []
-  no_lines day xs i h = ap (trace_lines K day) (no-day xs i h)
+  no_lines day xs i h = ap (trace_lines K day) (no_day xs i h)
 
-  pub pasted-day : (day : ℕ) (xs : List V) (i : ℕ) (x : V) (end next : ℕ) (out mid : List ℕ) → i < length xs → x ≡ get_or xs i x → end ≤ length out → next ≡ end + length (line shown (trace_values K day (columns x))) → mid ≡ pasted end (line shown (trace_values K day (columns x))) out → pasted next (trace_lines K (day + 1) (map columns (drop (i + 1) xs))) mid ≡ pasted end (trace_lines K day (map columns (drop i xs))) out
-  pasted-day day xs i x end next out mid h e l n m =
+  pub pasted_day : (day : ℕ) (xs : List V) (i : ℕ) (x : V) (end next : ℕ) (out mid : List ℕ) → i < length xs → x ≡ get_or xs i x → end ≤ length out → next ≡ end + length (line shown (trace_values K day (columns x))) → mid ≡ pasted end (line shown (trace_values K day (columns x))) out → pasted next (trace_lines K (day + 1) (map columns (drop (i + 1) xs))) mid ≡ pasted end (trace_lines K day (map columns (drop i xs))) out
+  pasted_day day xs i x end next out mid h e l n m =
       let this : List ℕ = line shown (trace_values K day (columns x)) in
       let rest : List ℕ = trace_lines K (day + 1) (map columns (drop (i + 1) xs)) in
-      ap (λ p. pasted p rest mid) n ∙ (ap (pasted (end + length this) rest) m ∙ (pasted_append end this rest out l ∙ ap (λ bs. pasted end bs out) (sym (lines-of-day day xs i x h e))))
+      ap (λ p. pasted p rest mid) n ∙ (ap (pasted (end + length this) rest) m ∙ (pasted_append end this rest out l ∙ ap (λ bs. pasted end bs out) (sym (lines_of_day day xs i x h e))))
 
-  pub pasted-days : (day : ℕ) (xs : List V) (i end : ℕ) (out : List ℕ) → length xs ≤ i → pasted end (trace_lines K day (map columns (drop i xs))) out ≡ out
-  pasted-days day xs i end out h = ap (λ bs. pasted end bs out) (no_lines day xs i h) ∙ pasted_none end out
+  pub pasted_days : (day : ℕ) (xs : List V) (i end : ℕ) (out : List ℕ) → length xs ≤ i → pasted end (trace_lines K day (map columns (drop i xs))) out ≡ out
+  pasted_days day xs i end out h = ap (λ bs. pasted end bs out) (no_lines day xs i h) ∙ pasted_none end out
 
-  pub entered-day : (day : ℕ) (xs : List V) (i : ℕ) (x : V) → i < length xs → x ≡ get_or xs i x → not_entered K day (map columns (drop i xs)) ≡ cond (within K.arity K.bound (columns x)) (not_entered K (day + 1) (map columns (drop (i + 1) xs))) (Some day)
-  entered-day day xs i x h e = ap (not_entered K day) (one_day xs i x h e)
+  pub entered_day : (day : ℕ) (xs : List V) (i : ℕ) (x : V) → i < length xs → x ≡ get_or xs i x → not_entered K day (map columns (drop i xs)) ≡ cond (within K.arity K.bound (columns x)) (not_entered K (day + 1) (map columns (drop (i + 1) xs))) (Some day)
+  entered_day day xs i x h e = ap (not_entered K day) (one_day xs i x h e)
 
   pub entered_all : (day : ℕ) (xs : List V) (i : ℕ) → length xs ≤ i → not_entered K day (map columns (drop i xs)) ≡ None
-  entered_all day xs i h = ap (not_entered K day) (no-day xs i h)
+  entered_all day xs i h = ap (not_entered K day) (no_day xs i h)
 
 -- a text at the start of a buffer
 pub text_written : (text before after : List ℕ) (bytes : ℕ) → Writes 0 text before after (Some bytes) → (in_room (length before) text ≡ Ok (take bytes after)) × (bytes ≤ length after) × (drop bytes after ≡ drop bytes before)

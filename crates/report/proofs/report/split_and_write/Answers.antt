@@ -1,7 +1,7 @@
 use Rattle.std.proofs.Common.{map, length, take}
 use Rattle.std.proofs.lemmas.Result.{err_from_is_err_and}
 use Rattle.sheets.specs.Takes.{state_of}
-use Rattle.report.proofs.SplitFacts.{taken-never, taken-on, due-ok, due-err}
+use Rattle.report.proofs.SplitFacts.{taken_never, taken_on, due_ok, due_err}
 use Rattle.report.proofs.report.split_and_write.Goals as goal
 
 pub returns-in_err-in_taking : goal.returns-in_err-in_taking
@@ -9,14 +9,14 @@ returns-in_err-in_taking g c =
     let s = state_of g.S.Shelf.slots g.S.Shelf.outside c.args.sheet.now in
     let t = state_of g.S.Shelf.slots g.S.Shelf.outside c.take_front.new.sheet in
     let xs = map g.K.Total.columns (take c.args.days c.args.totals.now) in
-    absurd (taken-never g.K.Total.kind xs (length c.args.work.now) s t c.take_front.result c.take_front.ensures _ c.requires.accepted c.in_err-in_taking.ensures)
+    absurd (taken_never g.K.Total.kind xs (length c.args.work.now) s t c.take_front.result c.take_front.ensures _ c.requires.accepted c.in_err-in_taking.ensures)
 
 pub write_sheet-requires : goal.write_sheet-requires
 write_sheet-requires g c =
     let s = state_of g.S.Shelf.slots g.S.Shelf.outside c.args.sheet.now in
     let t = state_of g.S.Shelf.slots g.S.Shelf.outside c.take_front.new.sheet in
     let xs = map g.K.Total.columns (take c.args.days c.args.totals.now) in
-    taken-on g.K.Total.kind xs (length c.args.work.now) s t c.take_front.result c.take_front.ensures _ c.in_ok-in_taking.ensures c.requires.begun
+    taken_on g.K.Total.kind xs (length c.args.work.now) s t c.take_front.result c.take_front.ensures _ c.in_ok-in_taking.ensures c.requires.begun
 
 pub returns-in_err-bytes : goal.returns-in_err-bytes
 returns-in_err-bytes g c =
@@ -25,11 +25,11 @@ returns-in_err-bytes g c =
     let xs = map g.K.Total.columns (take c.args.days c.args.totals.now) in
     let p = err_from_is_err_and c.from-residual-in_err-bytes.result c.from-residual-in_err-bytes.ensures.1 in
     rw (p.1, p.2)
-    (due-err g.K.Total.kind xs (length c.args.work.now) s t c.take_front.result c.take_front.ensures _ c.in_ok-in_taking.ensures c.args.out.now c.write_sheet.new.out c.write_sheet.result _ c.write_sheet.ensures c.in_err-bytes.ensures)
+    (due_err g.K.Total.kind xs (length c.args.work.now) s t c.take_front.result c.take_front.ensures _ c.in_ok-in_taking.ensures c.args.out.now c.write_sheet.new.out c.write_sheet.result _ c.write_sheet.ensures c.in_err-bytes.ensures)
 
 pub returns : goal.returns
 returns g c =
     let s = state_of g.S.Shelf.slots g.S.Shelf.outside c.args.sheet.now in
     let t = state_of g.S.Shelf.slots g.S.Shelf.outside c.take_front.new.sheet in
     let xs = map g.K.Total.columns (take c.args.days c.args.totals.now) in
-    due-ok g.K.Total.kind xs (length c.args.work.now) s t c.take_front.result c.take_front.ensures _ c.in_ok-in_taking.ensures c.args.out.now c.write_sheet.new.out c.write_sheet.result _ c.write_sheet.ensures c.in_ok-bytes.ensures
+    due_ok g.K.Total.kind xs (length c.args.work.now) s t c.take_front.result c.take_front.ensures _ c.in_ok-in_taking.ensures c.args.out.now c.write_sheet.new.out c.write_sheet.result _ c.write_sheet.ensures c.in_ok-bytes.ensures

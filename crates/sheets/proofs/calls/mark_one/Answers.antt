@@ -1,6 +1,6 @@
 use Rattle.std.proofs.Common.{ap}
 use Rattle.sheets.specs.Takes.{state_of}
-use Rattle.sheets.proofs.History.{one-shows}
+use Rattle.sheets.proofs.History.{one_shows}
 use Rattle.sheets.proofs.Promised.{continues}
 use Rattle.sheets.proofs.calls.mark_one.Goals as goal
 
@@ -9,7 +9,7 @@ returns g c = record {
   answer = c.change_one.ensures;
   history =
       continues g.K.Total.kind g.met.K.Total.lawful _ _ _ c.change_one.result
-      (one-shows g.K.Total.kind g.met.K.Total.lawful c.args.mark c.args.number
+      (one_shows g.K.Total.kind g.met.K.Total.lawful c.args.mark c.args.number
       (state_of g.S.Shelf.slots g.S.Shelf.outside c.args.sheet.now)
       (state_of g.S.Shelf.slots g.S.Shelf.outside c.change_one.new.sheet)
       c.args.sheet.now

@@ -1,6 +1,6 @@
 use Rattle.std.proofs.Common.{ap}
 use Rattle.sheets.specs.Takes.{state_of}
-use Rattle.sheets.proofs.History.{range-shows}
+use Rattle.sheets.proofs.History.{range_shows}
 use Rattle.sheets.proofs.Promised.{continues}
 use Rattle.sheets.proofs.calls.mark_range.Goals as goal
 
@@ -9,7 +9,7 @@ returns g c = record {
   answer = c.change_range.ensures;
   history =
       continues g.K.Total.kind g.met.K.Total.lawful _ _ _ c.change_range.result
-      (range-shows g.K.Total.kind g.met.K.Total.lawful c.args.mark c.args.low c.args.high
+      (range_shows g.K.Total.kind g.met.K.Total.lawful c.args.mark c.args.low c.args.high
       (state_of g.S.Shelf.slots g.S.Shelf.outside c.args.sheet.now)
       (state_of g.S.Shelf.slots g.S.Shelf.outside c.change_range.new.sheet)
       c.args.sheet.now

@@ -1,6 +1,6 @@
 use Rattle.std.proofs.Common.{map, length, ap}
 use Rattle.sheets.specs.Takes.{state_of}
-use Rattle.sheets.proofs.History.{take-shows}
+use Rattle.sheets.proofs.History.{take_shows}
 use Rattle.sheets.proofs.Promised.{continues}
 use Rattle.sheets.proofs.calls.take_on.Goals as goal
 
@@ -9,7 +9,7 @@ returns g c = record {
   answer = c.take_record.ensures;
   history =
       continues g.K.Total.kind g.met.K.Total.lawful _ _ _ c.take_record.result
-      (take-shows g.K.Total.kind g.met.K.Total.lawful (map g.K.Total.columns c.args.totals.now) (length c.args.work.now)
+      (take_shows g.K.Total.kind g.met.K.Total.lawful (map g.K.Total.columns c.args.totals.now) (length c.args.work.now)
       (state_of g.S.Shelf.slots g.S.Shelf.outside c.args.sheet.now)
       (state_of g.S.Shelf.slots g.S.Shelf.outside c.take_record.new.self)
       c.args.sheet.now

@@ -1,12 +1,12 @@
 use Rattle.std.proofs.Common.{◌+◌, ◌≤◌, refl, ◌∙◌, arith, rules}
 use Rattle.sheets.specs.Calls.{marking}
 use Rattle.sheets.specs.Marks.{marks_changed}
-use Rattle.sheets.proofs.Slots.{marked-none, marked_more, marked-blank}
+use Rattle.sheets.proofs.Slots.{marked_none, marked_more, marked_blank}
 use Rattle.sheets.proofs.marks.mark_widths.Goals as goal
 
 pub loop-slot-init : goal.loop-slot-init
 unfolding marks_changed
-loop-slot-init g c = (marked-none g.K.Total.kind (marking c.args.mark c.args.low c.args.high) _, refl, omega arith, refl)
+loop-slot-init g c = (marked_none g.K.Total.kind (marking c.args.mark c.args.low c.args.high) _, refl, omega arith, refl)
 
 pub loop-slot-preserved : goal.loop-slot-preserved
 loop-slot-preserved g c =

@@ -1,11 +1,11 @@
 use Rattle.sheets.specs.Takes.{state_of}
-use Rattle.sheets.proofs.Asked.{no-stretch, listed-stop}
+use Rattle.sheets.proofs.Asked.{no_stretch, listed_stop}
 use Rattle.sheets.proofs.questions.listed_pulse.Goals as goal
 
 pub returns-in-None : goal.returns-in-None
 returns-in-None g c =
     let e = c.in-Ok.ensures in
-    no-stretch g.K.Total.kind g.met.K.Total.lawful
+    no_stretch g.K.Total.kind g.met.K.Total.lawful
     (state_of g.S.Shelf.slots g.S.Shelf.outside c.args.sheet.now)
     c.args.number
     c.requires.0
@@ -20,7 +20,7 @@ returns-in-None g c =
 
 pub returns-in-Err : goal.returns-in-Err
 returns-in-Err g c =
-    listed-stop g.K.Total.kind g.met.K.Total.lawful
+    listed_stop g.K.Total.kind g.met.K.Total.lawful
     (state_of g.S.Shelf.slots g.S.Shelf.outside c.args.sheet.now)
     c.args.number
     c.requires.0

@@ -1,7 +1,7 @@
 use Rattle.std.proofs.Common.{sym, ap, ◌∙◌, subst}
 use Rattle.kinds.specs.Columns.{minus}
 use Rattle.kinds.specs.Kinds.{Gives}
-use Rattle.sheets.proofs.Asked.{size_below, size-equal, size_above}
+use Rattle.sheets.proofs.Asked.{size_below, size_equal, size_above}
 use Rattle.sheets.proofs.questions.size_of.Goals as goal
 
 pub returns-in-Less : goal.returns-in-Less
@@ -12,7 +12,7 @@ returns-in-Less g c =
     c.difference.ensures
 
 pub returns-in-Equal : goal.returns-in-Equal
-returns-in-Equal g c = size-equal g.K.Total.kind g.met.K.Total.lawful _ _ c.zero.ensures c.in-Equal.ensures
+returns-in-Equal g c = size_equal g.K.Total.kind g.met.K.Total.lawful _ _ c.zero.ensures c.in-Equal.ensures
 
 pub returns-in-Greater : goal.returns-in-Greater
 returns-in-Greater g c = size_above g.K.Total.kind g.met.K.Total.lawful _ _ c.zero.ensures c.in-Greater.ensures

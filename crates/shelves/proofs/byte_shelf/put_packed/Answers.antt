@@ -5,7 +5,7 @@ use Rattle.shelves.specs.Bytes.{overwritten, packed, past, shown_bytes, size, wh
 use Rattle.shelves.specs.Slots.{shown}
 use Rattle.shelves.proofs.Overwrites.{put_is}
 use Rattle.shelves.proofs.Packs.{length_packed}
-use Rattle.shelves.proofs.Shown.{length_shown, no_slot, past-put, shown-put}
+use Rattle.shelves.proofs.Shown.{length_shown, no_slot, past_put, shown_put}
 use Rattle.shelves.proofs.byte_shelf.put_packed.Goals as goal
 
 pub returns-then-slot-slots_in : goal.returns-then-slot-slots_in
@@ -23,8 +23,8 @@ returns-then-slot-slots_in g c =
     let left : put_mid at ((at + n) - at) bytes c.pack.new.slot ≡ overwritten bytes (c.args.slot * size k.arity) (packed k columns row) = put_is bytes c.pack.new.slot (packed k columns row) at _ _ from wide c.pack.ensures.bytes in
     record {
       answer = omega (arith, length_shown k bytes);
-      slots = ap (shown_bytes k) left ∙ shown-put k columns row bytes c.args.slot below c.pack.ensures.shows;
-      past = ap (past k) left ∙ past-put k columns row bytes c.args.slot below;
+      slots = ap (shown_bytes k) left ∙ shown_put k columns row bytes c.args.slot below c.pack.ensures.shows;
+      past = ap (past k) left ∙ past_put k columns row bytes c.args.slot below;
       bytes = λ _. left;
     }
 

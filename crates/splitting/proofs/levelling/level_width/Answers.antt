@@ -5,12 +5,12 @@ use Rattle.splitting.specs.Passes.{aimed}
 use Rattle.splitting.proofs.Aims.{aimed_lawful}
 use Rattle.splitting.proofs.Passes.{skipped}
 use Rattle.splitting.proofs.Visits.{stage_outside}
-use Rattle.splitting.proofs.Sweeps.{added_none, added_then, added_all, ready-midway, done-knows, done-marks, done-list}
+use Rattle.splitting.proofs.Sweeps.{added_none, added_then, added_all, ready_midway, done_knows, done_marks, done_list}
 use Rattle.splitting.proofs.levelling.level_width.Goals as goal
 use Rattle.splitting.proofs.levelling.level_width.Goals.{then-first-at, else-first-at}
 
 pub loop-number-init : goal.loop-number-init
-loop-number-init g c = (λ b a R. (ready-midway _ g.met.K.Total.lawful _ _ _ _ _ b a R, added_none _ _ _ _ _), omega arith, refl)
+loop-number-init g c = (λ b a R. (ready_midway _ g.met.K.Total.lawful _ _ _ _ _ b a R, added_none _ _ _ _ _), omega arith, refl)
 
 pub mark_at-first-requires : goal.mark_at-first-requires
 mark_at-first-requires g c = omega (arith, c.requires.stands.2.few)
@@ -88,10 +88,10 @@ returns g c =
           let l = c.loop-number-test.false in
           let f = R.few in
           let k = I.0.behind in
-          let A = added_all _ _ _ _ _ _ _ _ (done-list _ O _ _ _ _ _ b a R _ _ _ _ I.0 l) I.1 in
+          let A = added_all _ _ _ _ _ _ _ _ (done_list _ O _ _ _ _ _ b a R _ _ _ _ I.0 l) I.1 in
           record {
-            knows = done-knows _ O _ _ _ _ _ b a R _ _ _ _ I.0 l;
-            marked = done-marks _ O _ _ _ _ _ b a R _ _ _ _ I.0 l;
+            knows = done_knows _ O _ _ _ _ _ b a R _ _ _ _ I.0 l;
+            marked = done_marks _ O _ _ _ _ _ b a R _ _ _ _ I.0 l;
             few = omega arith;
             put = A.0;
             count = A.1;

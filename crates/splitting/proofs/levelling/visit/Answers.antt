@@ -2,20 +2,20 @@ use Rattle.std.proofs.Common.{◌≡◌, suc, ◌+◌, List, [], ◌∷◌, set,
 use Rattle.std.proofs.lemmas.List.{append-nil}
 use Rattle.splitting.specs.Work.{view}
 use Rattle.splitting.specs.Passes.{bump_pulse}
-use Rattle.splitting.proofs.Visits.{visit-starts, visit-order, visit-end, other-left, other-right, entered_here, entered-left, entered-right, visit-dropped, dropped-none, visit-kept, kept-none, visit-levelled, levelled-one}
+use Rattle.splitting.proofs.Visits.{visit_starts, visit_order, visit_end, other_left, other_right, entered_here, entered_left, entered_right, visit_dropped, dropped_none, visit_kept, kept_none, visit_levelled, levelled_one}
 use Rattle.splitting.proofs.levelling.visit.Goals as goal
 
 pub other_at-requires : goal.other_at-requires
 other_at-requires g c =
     let V = c.requires.stands.4 in
     let O = g.met.K.Total.lawful in
-    omega (arith, visit-order _ O _ _ _ _ _ _ _ _ _ _ _ V, visit-end _ O _ _ _ _ _ _ _ _ _ _ _ V)
+    omega (arith, visit_order _ O _ _ _ _ _ _ _ _ _ _ _ V, visit_end _ O _ _ _ _ _ _ _ _ _ _ _ V)
 
 pub fate_of-requires : goal.fate_of-requires
 fate_of-requires g c =
     let V = c.requires.stands.4 in
     let O = g.met.K.Total.lawful in
-    rw c.other_at.ensures (visit-starts _ O _ _ _ _ _ _ _ _ _ _ _ V, visit-order _ O _ _ _ _ _ _ _ _ _ _ _ V, c.requires.room, visit-end _ O _ _ _ _ _ _ _ _ _ _ _ V)
+    rw c.other_at.ensures (visit_starts _ O _ _ _ _ _ _ _ _ _ _ _ V, visit_order _ O _ _ _ _ _ _ _ _ _ _ _ V, c.requires.room, visit_end _ O _ _ _ _ _ _ _ _ _ _ _ V)
 
 pub pulse-requires : goal.pulse-requires
 pulse-requires g c =
@@ -24,16 +24,16 @@ pulse-requires g c =
     let F = rw c.other_at.ensures at c.in-Levelled.ensures in
     let f = F.0 in
     let w = F.3 in
-    let o = visit-order _ O _ _ _ _ _ _ _ _ _ _ _ V in
+    let o = visit_order _ O _ _ _ _ _ _ _ _ _ _ _ V in
     let q = c.other_at.ensures in (
       omega arith,
       omega arith,
       omega arith,
       omega arith,
       entered_here _ O _ _ _ _ _ _ _ _ _ _ _ V,
-      entered-left _ O _ _ _ _ _ _ _ _ _ _ _ V,
-      rw c.other_at.ensures (entered-right _ O _ _ _ _ _ _ _ _ _ _ _ V f),
-      visit-starts _ O _ _ _ _ _ _ _ _ _ _ _ V,
+      entered_left _ O _ _ _ _ _ _ _ _ _ _ _ V,
+      rw c.other_at.ensures (entered_right _ O _ _ _ _ _ _ _ _ _ _ _ V f),
+      visit_starts _ O _ _ _ _ _ _ _ _ _ _ _ V,
     )
 
 pub level-new-requires : goal.level-new-requires
@@ -42,11 +42,11 @@ level-new-requires g c =
     let O = g.met.K.Total.lawful in
     let F = rw c.other_at.ensures at c.in-Levelled.ensures in
     let f = F.0 in
-    let o = visit-order _ O _ _ _ _ _ _ _ _ _ _ _ V in
+    let o = visit_order _ O _ _ _ _ _ _ _ _ _ _ _ V in
     let q = c.other_at.ensures in
-    let l = other-left _ O _ _ _ _ _ _ _ _ _ _ _ V in
-    let r = other-right _ O _ _ _ _ _ _ _ _ _ _ _ V f in
-    (visit-starts _ O _ _ _ _ _ _ _ _ _ _ _ V, omega arith, omega arith, omega arith, rw c.other_at.ensures (omega arith))
+    let l = other_left _ O _ _ _ _ _ _ _ _ _ _ _ V in
+    let r = other_right _ O _ _ _ _ _ _ _ _ _ _ _ V f in
+    (visit_starts _ O _ _ _ _ _ _ _ _ _ _ _ V, omega arith, omega arith, omega arith, rw c.other_at.ensures (omega arith))
 
 pub marked-requires : goal.marked-requires
 marked-requires g c =
@@ -67,10 +67,10 @@ returns-in-Levelled g c =
     let v = view g.K.Total.kind g.K.Total.columns c.args.work.now in
     record {
       stands = λ b a i hi V. (
-        visit-levelled _ O _ _ _ _ _ _ _ _ _ _ _ V F _ _ _ _ _ E c.marked.ensures,
+        visit_levelled _ O _ _ _ _ _ _ _ _ _ _ _ V F _ _ _ _ _ E c.marked.ensures,
         record {
           list = bump_pulse g.K.Total.kind c.args.pass.down v c.args.pass.width c.args.first (v.other c.args.first) ∷ [];
-          more = levelled-one _ O _ _ _ _ _ _ _ _ _ _ _ V F _ _ _ _ _ E c.marked.ensures;
+          more = levelled_one _ O _ _ _ _ _ _ _ _ _ _ _ V F _ _ _ _ _ E c.marked.ensures;
           put = c.put_next-rows.ensures.slots ∙ ap (λ e. set (g.S.Shelf.slots c.args.shelf.now) c.args.at.rows e) (rw c.other_at.ensures at c.pulse.ensures);
           count = c.put_next-rows.ensures.rows;
         },
@@ -86,10 +86,10 @@ returns-in-Kept g c =
     let e : c.args.at.kept + 1 ≡ suc c.args.at.kept = omega arith in
     record {
       stands = λ b a i hi V. (
-        rw (c.set_mark.ensures, e, c.other_at.ensures) (visit-kept _ O _ _ _ _ _ _ _ _ _ _ _ V F),
+        rw (c.set_mark.ensures, e, c.other_at.ensures) (visit_kept _ O _ _ _ _ _ _ _ _ _ _ _ V F),
         record {
           list = [];
-          more = rw (c.other_at.ensures, append-nil) (kept-none _ O _ _ _ _ _ _ _ _ _ _ _ V F);
+          more = rw (c.other_at.ensures, append-nil) (kept_none _ O _ _ _ _ _ _ _ _ _ _ _ V F);
           put = refl;
           count = omega arith;
         },
@@ -104,10 +104,10 @@ returns-in-Dropped g c =
     let F = rw c.other_at.ensures at c.in-Dropped.ensures in
     record {
       stands = λ b a i hi V. (
-        rw c.other_at.ensures (visit-dropped _ O _ _ _ _ _ _ _ _ _ _ _ V F),
+        rw c.other_at.ensures (visit_dropped _ O _ _ _ _ _ _ _ _ _ _ _ V F),
         record {
           list = [];
-          more = rw (c.other_at.ensures, append-nil) (dropped-none _ O _ _ _ _ _ _ _ _ _ _ _ V F);
+          more = rw (c.other_at.ensures, append-nil) (dropped_none _ O _ _ _ _ _ _ _ _ _ _ _ V F);
           put = refl;
           count = omega arith;
         },

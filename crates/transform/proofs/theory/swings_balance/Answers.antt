@@ -1,5 +1,5 @@
-use Rattle.transform.proofs.Swings.{pulses-swing}
+use Rattle.transform.proofs.Swings.{pulses_swing}
 use Rattle.transform.proofs.theory.swings_balance.Goals as goal
 
 pub returns : goal.returns
-returns c = pulses-swing
+returns c = pulses_swing

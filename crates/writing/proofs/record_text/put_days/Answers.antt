@@ -1,16 +1,16 @@
 use Rattle.std.proofs.Common.{◌+◌, length, sym, ap, ◌∙◌, arith}
-use Rattle.writing.proofs.RecordFacts.{length-of-day, no_lines, pasted-day, pasted-days}
+use Rattle.writing.proofs.RecordFacts.{length_of_day, no_lines, pasted_day, pasted_days}
 use Rattle.writing.proofs.record_text.put_days.Goals as goal
 
 pub put_day-text-requires : goal.put_day-text-requires
 put_day-text-requires g c =
-    let more = length-of-day g.K.Total.kind g.K.Total.columns (c.loop-i.i + 1) c.args.totals.now c.loop-i.i c.index-totals-i.result (omega arith) c.index-totals-i.is in
+    let more = length_of_day g.K.Total.kind g.K.Total.columns (c.loop-i.i + 1) c.args.totals.now c.loop-i.i c.index-totals-i.result (omega arith) c.index-totals-i.is in
     omega arith
 
 pub loop-i-preserved : goal.loop-i-preserved
 loop-i-preserved g c =
-    let more = length-of-day g.K.Total.kind g.K.Total.columns (c.loop-i.i + 1) c.args.totals.now c.loop-i.i c.index-totals-i.result (omega arith) c.index-totals-i.is in (
-      pasted-day g.K.Total.kind g.K.Total.columns (c.loop-i.i + 1) c.args.totals.now c.loop-i.i c.index-totals-i.result c.loop-i.text.at c.put_day-text.result.at c.loop-i.out c.put_day-text.new.out (omega arith) c.index-totals-i.is (omega arith) c.put_day-text.ensures.end c.put_day-text.ensures.bytes
+    let more = length_of_day g.K.Total.kind g.K.Total.columns (c.loop-i.i + 1) c.args.totals.now c.loop-i.i c.index-totals-i.result (omega arith) c.index-totals-i.is in (
+      pasted_day g.K.Total.kind g.K.Total.columns (c.loop-i.i + 1) c.args.totals.now c.loop-i.i c.index-totals-i.result c.loop-i.text.at c.put_day-text.result.at c.loop-i.out c.put_day-text.new.out (omega arith) c.index-totals-i.is (omega arith) c.put_day-text.ensures.end c.put_day-text.ensures.bytes
           ∙ c.loop-i.invariant.0,
       omega arith,
     )
@@ -19,6 +19,6 @@ pub returns : goal.returns
 returns g c =
     let none = ap length (no_lines g.K.Total.kind g.K.Total.columns (c.loop-i.i + 1) c.args.totals.now c.loop-i.i (omega arith)) in
     record {
-      bytes = sym (pasted-days g.K.Total.kind g.K.Total.columns (c.loop-i.i + 1) c.args.totals.now c.loop-i.i c.loop-i.text.at c.loop-i.out (omega arith)) ∙ c.loop-i.invariant.0;
+      bytes = sym (pasted_days g.K.Total.kind g.K.Total.columns (c.loop-i.i + 1) c.args.totals.now c.loop-i.i c.loop-i.text.at c.loop-i.out (omega arith)) ∙ c.loop-i.invariant.0;
       end = omega arith;
     }
