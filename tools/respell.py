@@ -48,7 +48,13 @@ def declared(text, generated):
             yield m[1], "term"
 
 
+# what would fall together with a type of src/
+OWN_WAY = {"So-far": "IsSoFar"}
+
+
 def respelled(name):
+    if name in OWN_WAY:
+        return OWN_WAY[name]
     name = name.replace("′", "'")
     parts = re.split("[-_]" if name[0].isupper() else "-", name)
     if name[0].isupper() and len(parts[0]) > 1:

@@ -79,11 +79,11 @@ abbrev pub step : (K : Kind) → State → ℕ → Of K
 step K s d = size K (minus K.arity (trace K (standing_trace K s) d) (trace K (standing_trace K s) (d - 1)))
 
 -- the sum of the sizes of the steps up to the last day, and what stands on that day
-abbrev pub SoFar : {V : Type 0} (K : Kind) → (V → Of K) → State → SoFar V → Type 0
-SoFar K columns s p =
+abbrev pub IsSoFar : {V : Type 0} (K : Kind) → (V → Of K) → State → SoFar V → Type 0
+IsSoFar K columns s p =
     (columns p.last ≡ trace K (standing_trace K s) s.days) × (columns p.sum ≡ summed K s.days (step K s))
 
 abbrev pub SwingsSoFar : {V : Type 0} (K : Kind) → (V → Of K) → State → Result (SoFar V) Stop → Type 0
-SwingsSoFar K columns s (Ok p) = SoFar K columns s p
+SwingsSoFar K columns s (Ok p) = IsSoFar K columns s p
 SwingsSoFar K columns s (Err (Refused r)) = ⊥
 SwingsSoFar K columns s (Err Unreachable) = Unled K s

@@ -5,7 +5,7 @@ ghost use Rattle.transform.specs.Pulses.{size};
 ghost use Rattle.sheets.specs.Takes.{state_of};
 ghost use Rattle.sheets.specs.Standing.{standing_total, standing_swing};
 ghost use Rattle.sheets.specs.Questions.{ComesOut, Listed, StandingTotal, Traced};
-ghost use Rattle.sheets.specs.Inside.{PulseOfRow, SoFar, Steps, SwingsSoFar};
+ghost use Rattle.sheets.specs.Inside.{PulseOfRow, IsSoFar, Steps, SwingsSoFar};
 
 use crate::marks::held_row;
 use crate::sheet::{Sheet, Stop};
@@ -192,7 +192,7 @@ fn swing_so_far<K: Total, S: Shelf<K>>(sheet: &Sheet<K, S>) -> Result<SoFar<K>, 
 
 // That sum with the step to the zero after the last day.
 fn with_last_step<K: Total, S: Shelf<K>>(sheet: &Sheet<K, S>, so_far: SoFar<K>) -> Result<K, Stop>
-    requires { SoFar K.kind K.columns (state_of S.slots S.outside sheet.now) so_far }
+    requires { IsSoFar K.kind K.columns (state_of S.slots S.outside sheet.now) so_far }
     ensures { ComesOut K.kind K.columns (state_of S.slots S.outside sheet.now) (standing_swing K.kind (state_of S.slots S.outside sheet.now)) result }
 {
     with_step(so_far.sum, so_far.last, K::zero())

@@ -118,9 +118,9 @@ fn pulse<K: Total>(work: &[WorkEntry<K>], run: Run, pass: Pass) -> Row<K>
     requires first_le_last { run.first ≤ run.last }
     requires first_bound { run.first < 65536 }
     requires width_bound { pass.width < 65536 }
-    requires first_value { within K.kind.arity K.kind.bound ((view K.kind K.columns work.now).total run.first) ≡ true }
-    requires first_value_2 { within K.kind.arity K.kind.bound ((view K.kind K.columns work.now).total (run.first - 1)) ≡ true }
-    requires last_value { within K.kind.arity K.kind.bound ((view K.kind K.columns work.now).total (run.last + 1)) ≡ true }
+    requires run_entered { within K.kind.arity K.kind.bound ((view K.kind K.columns work.now).total run.first) ≡ true }
+    requires left_entered { within K.kind.arity K.kind.bound ((view K.kind K.columns work.now).total (run.first - 1)) ≡ true }
+    requires right_entered { within K.kind.arity K.kind.bound ((view K.kind K.columns work.now).total (run.last + 1)) ≡ true }
     requires first_nonzero { 0 < run.first }
     ensures { shown K.kind K.columns result ≡ row_of (bump_pulse K.kind pass.down (view K.kind K.columns work.now) pass.width run.first run.last) }
 {
@@ -168,8 +168,8 @@ fn level<K: Total>(work: &mut [WorkEntry<K>], run: Run, down: bool) -> Run
     requires first_nonzero { 0 < run.first }
     requires first_le_last { run.first ≤ run.last }
     requires last_in_bounds { run.last + 1 < length work.old }
-    requires first_in_bounds { (view K.kind K.columns work.old).other (run.first - 1) < length work.old }
-    requires last_in_bounds_2 { (view K.kind K.columns work.old).other (run.last + 1) < length work.old }
+    requires left_in_bounds { (view K.kind K.columns work.old).other (run.first - 1) < length work.old }
+    requires right_in_bounds { (view K.kind K.columns work.old).other (run.last + 1) < length work.old }
     ensures { Relaid (aimed K.kind down) (view K.kind K.columns work.old) (view K.kind K.columns work.new) run.first run.last result.first result.last }
 {
     let left = total_at(work, run.first - 1);

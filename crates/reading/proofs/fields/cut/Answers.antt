@@ -5,7 +5,7 @@ use native.Mathlib.Nat.{sub-zero}
 use Rattle.reading.proofs.fields.cut.Goals as goal
 
 pub returns-then-end-bytes : goal.returns-then-end-bytes
-returns-then-end-bytes c = simp (sub-zero, take_rest) (cut_found c.args.stop c.args.bytes.now c.reach_end.result c.reach_end.ensures c.if-end-bytes.true)
+returns-then-end-bytes c = simp (sub-zero, take_rest) (cut_found c.args.stop c.args.bytes.now c.reach-end.result c.reach-end.ensures c.if-end-bytes.true)
 
 pub returns-else-end-bytes : goal.returns-else-end-bytes
 returns-else-end-bytes c = cut_whole c.args.stop c.args.bytes.now (omega arith)

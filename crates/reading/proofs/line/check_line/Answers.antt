@@ -6,7 +6,7 @@ use Rattle.reading.proofs.line.check_line.Goals as goal
 
 pub returns-in_err-on_line : goal.returns-in_err-on_line
 returns-in_err-on_line c =
-    let p = err_from_is_err_and c.from-residual.result c.from-residual.ensures.1 in
+    let p = err_from_is_err_and c.from_residual.result c.from_residual.ensures.1 in
     let count : length (fields c.args.line.now) ≡ length (fields c.args.names.now) = omega arith in
     let checked = rw c.check_fields.ensures at c.in_err-on_line.ensures in
     let place = line_kept c.check_fields.result (c.args.day + 1) c.in_err-on_line.field-0.0 c.in_err-on_line.ensures in

@@ -6,7 +6,7 @@ use Rattle.reading.proofs.line.total_of.Goals as goal
 pub returns-in_err-total : goal.returns-in_err-total
 returns-in_err-total g c =
     let h = rw (to_z-of_z w64 c.args.first c.ranges.first) at c.in_err-total.ensures in
-    rw c.from-residual.ensures
+    rw c.from_residual.ensures
     (none_put g.K.Total.kind g.met.K.Total.lawful g.K.Total.columns c.args.first c.args.second
     (first_put g.K.Total.kind g.met.K.Total.lawful g.K.Total.columns c.zero.result c.args.first None c.zero.ensures h))
 

@@ -8,7 +8,7 @@ use Rattle.reading.proofs.trace.read_lines.Goals as goal
 
 pub returns-in_err-days : goal.returns-in_err-days
 returns-in_err-days g c =
-    let p = err_from_is_err_and c.from-residual-in_err-days.result c.from-residual-in_err-days.ensures.1 in
+    let p = err_from_is_err_and c.from_residual-in_err-days.result c.from_residual-in_err-days.ensures.1 in
     let room = length c.args.totals.now in
     let split = c.in_ok-names.ensures.answer.0 in
     rw (p.1, p.2) (ap (within_room room) split ∙ counted_err _ (line_found c.in_err-days.field-0.0) room c.in_err-days.ensures.answer, c.in_err-days.ensures.place, refl)

@@ -23,7 +23,7 @@ returns-in_err-bytes g c =
     let s = state_of g.S.Shelf.slots g.S.Shelf.outside c.args.sheet.now in
     let t = state_of g.S.Shelf.slots g.S.Shelf.outside c.take_front.new.sheet in
     let xs = map g.K.Total.columns (take c.args.days c.args.totals.now) in
-    let p = err_from_is_err_and c.from-residual-in_err-bytes.result c.from-residual-in_err-bytes.ensures.1 in
+    let p = err_from_is_err_and c.from_residual-in_err-bytes.result c.from_residual-in_err-bytes.ensures.1 in
     rw (p.1, p.2)
     (due_err g.K.Total.kind xs (length c.args.work.now) s t c.take_front.result c.take_front.ensures _ c.in_ok-in_taking.ensures c.args.out.now c.write_sheet.new.out c.write_sheet.result _ c.write_sheet.ensures c.in_err-bytes.ensures)
 

@@ -26,7 +26,7 @@ set_run-requires g c =
     let x : Trace g.K.Total.kind = trace g.K.Total.kind xs in
     let zero = (trace_outside g.K.Total.kind xs).1 (suc c.loop-total.day) (simp length-map (omega arith)) in
     let A = c.extended-at-2.ensures (suc (length c.args.totals.now)) x c.loop-total.invariant.1 c.loop-total.invariant.2 (c.outside.ensures ∙ sym zero) (omega arith) in
-    (omega (arith, A.0.order), omega arith)
+    record { first_in_bounds = omega (arith, A.0.order); last_in_bounds = omega arith }
 
 pub returns : goal.returns
 returns g c =

@@ -10,9 +10,9 @@ pub unwrap-amount-requires : goal.unwrap-amount-requires
 unwrap-amount-requires g c =
     let T = g.K.Total in
     amount_given T.kind g.met.K.Total.lawful T.columns _ _ c.difference.result
-    (rw c.total_at.ensures c.requires.4)
+    (rw c.total_at.ensures c.requires.run_entered)
     (rw (c.nearer-level.ensures, c.total_at-left.ensures, c.total_at-right.ensures)
-    (cond_both _ _ _ (λ a. within T.kind.arity T.kind.bound a ≡ true) (λ _. c.requires.6) (λ _. c.requires.5)))
+    (cond_both _ _ _ (λ a. within T.kind.arity T.kind.bound a ≡ true) (λ _. c.requires.right_entered) (λ _. c.requires.left_entered)))
     c.difference.ensures
 
 pub returns : goal.returns

@@ -15,7 +15,12 @@ pub fate_of-requires : goal.fate_of-requires
 fate_of-requires g c =
     let V = c.requires.stands.4 in
     let O = g.met.K.Total.lawful in
-    rw c.other_at.ensures (visit_starts _ O _ _ _ _ _ _ _ _ _ _ _ V, visit_order _ O _ _ _ _ _ _ _ _ _ _ _ V, c.requires.room, visit_end _ O _ _ _ _ _ _ _ _ _ _ _ V)
+    rw c.other_at.ensures (record {
+      first_nonzero = visit_starts _ O _ _ _ _ _ _ _ _ _ _ _ V;
+      first_le_last = visit_order _ O _ _ _ _ _ _ _ _ _ _ _ V;
+      days_in_bounds = c.requires.room;
+      last_bound = visit_end _ O _ _ _ _ _ _ _ _ _ _ _ V;
+    })
 
 pub pulse-requires : goal.pulse-requires
 pulse-requires g c =
@@ -25,16 +30,17 @@ pulse-requires g c =
     let f = F.0 in
     let w = F.3 in
     let o = visit_order _ O _ _ _ _ _ _ _ _ _ _ _ V in
-    let q = c.other_at.ensures in (
-      omega arith,
-      omega arith,
-      omega arith,
-      omega arith,
-      entered_here _ O _ _ _ _ _ _ _ _ _ _ _ V,
-      entered_left _ O _ _ _ _ _ _ _ _ _ _ _ V,
-      rw c.other_at.ensures (entered_right _ O _ _ _ _ _ _ _ _ _ _ _ V f),
-      visit_starts _ O _ _ _ _ _ _ _ _ _ _ _ V,
-    )
+    let q = c.other_at.ensures in
+    record {
+      last_in_bounds = omega arith;
+      first_le_last = omega arith;
+      first_bound = omega arith;
+      width_bound = omega arith;
+      run_entered = entered_here _ O _ _ _ _ _ _ _ _ _ _ _ V;
+      left_entered = entered_left _ O _ _ _ _ _ _ _ _ _ _ _ V;
+      right_entered = rw c.other_at.ensures (entered_right _ O _ _ _ _ _ _ _ _ _ _ _ V f);
+      first_nonzero = visit_starts _ O _ _ _ _ _ _ _ _ _ _ _ V;
+    }
 
 pub level-new-requires : goal.level-new-requires
 level-new-requires g c =
@@ -46,7 +52,13 @@ level-new-requires g c =
     let q = c.other_at.ensures in
     let l = other_left _ O _ _ _ _ _ _ _ _ _ _ _ V in
     let r = other_right _ O _ _ _ _ _ _ _ _ _ _ _ V f in
-    (visit_starts _ O _ _ _ _ _ _ _ _ _ _ _ V, omega arith, omega arith, omega arith, rw c.other_at.ensures (omega arith))
+    record {
+      first_nonzero = visit_starts _ O _ _ _ _ _ _ _ _ _ _ _ V;
+      first_le_last = omega arith;
+      last_in_bounds = omega arith;
+      left_in_bounds = omega arith;
+      right_in_bounds = rw c.other_at.ensures (omega arith);
+    }
 
 pub marked-requires : goal.marked-requires
 marked-requires g c =

@@ -8,12 +8,12 @@ use Rattle.writing.proofs.pulse_text.write_two.Goals as goal
 pub returns-in_err-left : goal.returns-in_err-left
 returns-in_err-left c =
     let both = length-append (line letters c.args.names.now) (line shown c.args.values.now) in
-    rw c.from-residual.ensures (refl, omega (arith, c.in_err-left.ensures))
+    rw c.from_residual.ensures (refl, omega (arith, c.in_err-left.ensures))
 
 pub returns-in_err-room_behind_values : goal.returns-in_err-room_behind_values
 returns-in_err-room_behind_values c =
     let both = length-append (line letters c.args.names.now) (line shown c.args.values.now) in
-    rw c.from-residual-in_err-room_behind_values.ensures (refl, omega (arith, c.in_ok-left.ensures, c.in_err-room_behind_values.ensures))
+    rw c.from_residual-in_err-room_behind_values.ensures (refl, omega (arith, c.in_ok-left.ensures, c.in_err-room_behind_values.ensures))
 
 pub returns-in-Ok : goal.returns-in-Ok
 returns-in-Ok c =

@@ -13,14 +13,14 @@ returns-in_err-left g c =
     let names : take (c.trace_names-line.result.count - 0) c.trace_names-line.result.names ≡ trace_headings g.K.Total.kind = rw sub-zero c.trace_names-line.ensures.names in
     let long = ap (λ hs. length (line letters hs)) names in
     let both = length-append (line letters (trace_headings g.K.Total.kind)) (trace_lines g.K.Total.kind 1 (map g.K.Total.columns c.args.totals.now)) in
-    rw c.from-residual.ensures (refl, omega (arith, c.in_err-left.ensures))
+    rw c.from_residual.ensures (refl, omega (arith, c.in_err-left.ensures))
 
 pub returns-in_err-room_behind_days : goal.returns-in_err-room_behind_days
 returns-in_err-room_behind_days g c =
     let names : take (c.trace_names-line.result.count - 0) c.trace_names-line.result.names ≡ trace_headings g.K.Total.kind = rw sub-zero c.trace_names-line.ensures.names in
     let long = ap (λ hs. length (line letters hs)) names in
     let both = length-append (line letters (trace_headings g.K.Total.kind)) (trace_lines g.K.Total.kind 1 (map g.K.Total.columns c.args.totals.now)) in
-    rw c.from-residual-in_err-room_behind_days.ensures (refl, omega (arith, c.in_ok-left.ensures, c.in_err-room_behind_days.ensures))
+    rw c.from_residual-in_err-room_behind_days.ensures (refl, omega (arith, c.in_ok-left.ensures, c.in_err-room_behind_days.ensures))
 
 pub put_days-requires : goal.put_days-requires
 put_days-requires g c =
