@@ -12,10 +12,7 @@ pub(crate) fn take_lot(
     work: &mut [WorkEntry<Cents>],
     rows: &mut [Row<Cents>],
 ) -> Option<usize> {
-    let mut sheet: Sheet<Cents, RowShelf<Cents>> = Sheet::new(<RowShelf<'_, _> as OverRows<
-        '_,
-        _,
-    >>::over(rows));
+    let mut sheet: Sheet<Cents, RowShelf<Cents>> = Sheet::new(RowShelf::over(rows));
     for _ in 0..rounds {
         if !take_round(lot, days, &mut sheet, work) {
             return None;

@@ -146,9 +146,7 @@ fn pulses_of<K: Total>(
     ensures { PulsesWritten K.kind text.now out.old out.new result }
 {
     let days = read_trace(text, totals)?;
-    let mut sheet: Sheet<K, RowShelf<K>> = Sheet::new(<RowShelf<'_, _> as OverRows<'_, _>>::over(
-        rows,
-    ));
+    let mut sheet: Sheet<K, RowShelf<K>> = Sheet::new(RowShelf::over(rows));
     split_and_write(&mut sheet, totals, days, work, out)
 }
 

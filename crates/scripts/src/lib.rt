@@ -23,9 +23,7 @@ fn over_rows<K: Total>(rt: &HostRuntime, script: &mut Script, size: usize) -> an
         amount: K::zero(),
     };
     let mut rows = filled(rt.alloc(), blank, size)?;
-    let mut sheet = opened::<K, RowShelf<K>>(<RowShelf<'_, _> as OverRows<'_, _>>::over(
-        rows.as_mut_slice(),
-    ));
+    let mut sheet = opened::<K, RowShelf<K>>(RowShelf::over(rows.as_mut_slice()));
     let asked = play(rt, script, &mut sheet)?;
     drop(sheet);
     if asked {
@@ -37,9 +35,7 @@ fn over_rows<K: Total>(rt: &HostRuntime, script: &mut Script, size: usize) -> an
 // A script of paper totals on a sheet over bytes.
 fn paper_over_bytes(rt: &HostRuntime, script: &mut Script, size: usize) -> anyhow::Result<()> {
     let mut bytes = filled(rt.alloc(), 0u8, size)?;
-    let mut sheet = opened::<Paper, ByteShelf<Paper>>(<ByteShelf<'_, _> as OverBytes<'_, _>>::over(
-        bytes.as_mut_slice(),
-    ));
+    let mut sheet = opened::<Paper, ByteShelf<Paper>>(ByteShelf::over(bytes.as_mut_slice()));
     let asked = play(rt, script, &mut sheet)?;
     drop(sheet);
     if asked {
@@ -51,10 +47,7 @@ fn paper_over_bytes(rt: &HostRuntime, script: &mut Script, size: usize) -> anyho
 // The same of mobile totals: a byte shelf is lent at a kind that is known.
 fn mobile_over_bytes(rt: &HostRuntime, script: &mut Script, size: usize) -> anyhow::Result<()> {
     let mut bytes = filled(rt.alloc(), 0u8, size)?;
-    let mut sheet = opened::<Mobile, ByteShelf<Mobile>>(<ByteShelf<'_, _> as OverBytes<
-        '_,
-        _,
-    >>::over(bytes.as_mut_slice()));
+    let mut sheet = opened::<Mobile, ByteShelf<Mobile>>(ByteShelf::over(bytes.as_mut_slice()));
     let asked = play(rt, script, &mut sheet)?;
     drop(sheet);
     if asked {

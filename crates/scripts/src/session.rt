@@ -16,7 +16,9 @@ const MOST_DAYS: usize = 1000;
 // A new sheet: the one after no calls. What is promised of a sheet after any list of calls holds of
 // it, and each call of the script continues its history.
 pub fn opened<K: Total, S: Shelf<K>>(shelf: S) -> Sheet<K, S> {
-    sheet_after(shelf, &[], &[], &mut [])
+    let totals: [K; 0] = [];
+    let mut work: [WorkEntry<K>; 0] = [];
+    sheet_after(shelf, &[], &totals, &mut work)
 }
 
 // Answers the script's lines up to its end or the question for the memory; true where that came.

@@ -29,10 +29,7 @@ fn taken(heap: Global, record: &[i64]) -> Result<Option<Vec<Pulse>>, AllocError>
         rows.push(blank)?;
         work.push(WorkEntry::new())?;
     }
-    let mut sheet: Sheet<Cents, RowShelf<Cents>> = Sheet::new(<RowShelf<'_, _> as OverRows<
-        '_,
-        _,
-    >>::over(rows.as_mut_slice()));
+    let mut sheet: Sheet<Cents, RowShelf<Cents>> = Sheet::new(RowShelf::over(rows.as_mut_slice()));
     let count = match sheet.take(totals.as_slice(), work.as_mut_slice()) {
         Ok(count) => count,
         Err(_) => return Ok(None),

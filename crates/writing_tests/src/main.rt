@@ -88,7 +88,7 @@ fn refusals(rt: &HostRuntime) -> io::Result<()> {
 }
 
 // A record with the largest figures, written into a buffer that is a little longer.
-fn records(rt: &HostRuntime) -> io::Result<()> {
+fn largest_figures(rt: &HostRuntime) -> io::Result<()> {
     let totals = [mobile(1_000_000_000_000, -1), mobile(0, 1_000_000_000)];
     let mut out = [b'.'; 55];
     let bytes = write_trace(&totals, &mut out).unwrap_or(0);
@@ -117,7 +117,7 @@ fn run(rt: &HostRuntime) -> anyhow::Result<()> {
     fields(rt)?;
     pulses(rt)?;
     refusals(rt)?;
-    records(rt)?;
+    largest_figures(rt)?;
     Ok(())
 }
 
