@@ -1,11 +1,10 @@
 -- Lemmas on the figure reader.
-use Rattle.std.proofs.Common.{◌≡◌, ℕ, suc, ◌+◌, ◌-◌, ◌*◌, ◌^◌, ◌<◌, ◌≤◌, Bool, true, false, cond, eqb, leb, List, [], ◌∷◌, length, ℤ, pos, ◌-ℤ◌, neg_ℤ, Some, None, sym, refl, ap, ◌∙◌, add-one, arith, w64, to_z, of_z}
+use Rattle.std.proofs.Common.{◌≡◌, ℕ, ◌+◌, ◌-◌, ◌*◌, ◌^◌, ◌<◌, ◌≤◌, Bool, true, false, List, [], ◌∷◌, pos, ◌-ℤ◌, neg_ℤ, Some, add-one, arith, w64, to_z, of_z}
 use native.Mathlib.Nat.{pow-succ', pow-le-pow_right}
-use Rattle.std.proofs.lemmas.Int.{ints, to_z-of_z}
+use Rattle.std.proofs.lemmas.Int.{ints}
 use Rattle.std.proofs.lemmas.Bool.Decides.{nat_tests}
-use Rattle.figures.specs.Bytes.{is_digit}
-use Rattle.figures.specs.Figures.{figure, negative, digits}
-use Rattle.figures.specs.Reader.{outcome, begun, continued, more, Sound}
+use Rattle.figures.specs.Figures.{figure, negative}
+use Rattle.figures.specs.Reader.{outcome, begun, continued, Sound}
 use Rattle.figures.specs.declared.figure.FigureReader.{FigureReader}
 use Rattle.figures.specs.declared.figure.State.TheVariants.{Digits}
 

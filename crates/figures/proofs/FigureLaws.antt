@@ -1,13 +1,12 @@
 -- Figures and decimals: what is written of a number reads back, and what reads is what would be written.
-use Rattle.std.proofs.Common.{◌≡◌, ℕ, zero, suc, ◌+◌, ◌-◌, ◌*◌, ◌^◌, ◌<◌, ◌≤◌, Bool, true, false, cond, not, ◌&&◌, ◌||◌, eqb, ltb, leb, ◌⊎◌, List, [], ◌∷◌, ◌++◌, length, get_or, ℤ, pos, negsuc, neg_ℤ, nat_abs, Some, None, decimal, Option, sym, refl, ap, ◌∙◌, subst, inl, inr, arith, rules}
+use Rattle.std.proofs.Common.{◌≡◌, ℕ, zero, suc, ◌^◌, ◌<◌, ◌≤◌, Bool, true, false, cond, not, ◌&&◌, ◌||◌, eqb, leb, ◌⊎◌, List, [], ◌∷◌, length, get_or, ℤ, pos, negsuc, neg_ℤ, nat_abs, Some, None, decimal, sym, refl, ap, ◌∙◌, inl, inr, arith, rules}
 use Rattle.std.proofs.lemmas.Fmt.{decimal_digit, digits_decimal, digits_value-decimal, length-decimal-le, decimal_nonempty, first_decimal, decimal-digits_value}
 use Rattle.std.proofs.lemmas.Str.Parse.{IsNumeralModel, numerals_by_fold, digits_value_short}
-use Rattle.std.proofs.lemmas.Bool.{cases_Bool, and_parts, and_from, or_left, or_right, or_cases, eqb-true, eqb-false, ne_eqb, eq-eqb, le-leb, leb-true, not-true, not_from_false, true≢false, cond-true, cases_lt}
-use Rattle.std.proofs.lemmas.Bool.Decides.{nat_tests}
+use Rattle.std.proofs.lemmas.Bool.{cases_Bool, and_parts, and_from, or_left, or_right, or_cases, eqb-true, eqb-false, ne_eqb, eq-eqb, le-leb, leb-true, not-true, not_from_false, cases_lt}
 use Rattle.std.specs.Fmt.{signed_decimal}
 use Rattle.figures.specs.Laws.{FiguresAgree}
 use Rattle.figures.specs.Bytes.{is_digit}
-use Rattle.figures.specs.Figures.{digits, number_on, plain, unsigned, negative, figure}
+use Rattle.figures.specs.Figures.{digits, number_on, plain, figure}
 
 -- our words for decimal digits and their number
 pub own : IsNumeralModel (λ bs. digits bs ≡ true) (number_on 0)

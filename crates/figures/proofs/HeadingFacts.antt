@@ -1,5 +1,5 @@
 -- Lemmas on the names of columns.
-use Rattle.std.proofs.Common.{◌≡◌, ℕ, eqb, Some, None, Option, refl, arith}
+use Rattle.std.proofs.Common.{◌≡◌, eqb, Some, None, Option, refl, arith}
 use Rattle.kinds.specs.Columns.{Arity, one, two, Each, column}
 use Rattle.kinds.specs.Kinds.{Name, cents, pieces, code, code_of}
 use Rattle.figures.specs.declared.heading.Heading.TheVariants.{Cents, Pieces}

@@ -1,5 +1,5 @@
 -- What a state of the figure reader means: what comes of the bytes that are still to come.
-use Rattle.std.specs.Prelude.{ℕ, ◌+◌, ◌*◌, ◌^◌, ◌<◌, ◌≤◌, Bool, true, cond, ◌&&◌, List, [], ◌∷◌, length, ℤ, pos, neg_ℤ, Some, None, Option, ◌==◌, nat_le}
+use Rattle.std.specs.Prelude.{ℕ, ◌+◌, ◌*◌, ◌^◌, ◌<◌, ◌≤◌, Bool, cond, ◌&&◌, List, [], ◌∷◌, length, ℤ, pos, neg_ℤ, Some, None, Option, ◌==◌, nat_le}
 use Rattle.figures.specs.declared.figure.State.{State}
 use Rattle.figures.specs.declared.figure.State.TheVariants.{Start, Signed, Zero, Digits, Wrong}
 use Rattle.figures.specs.declared.figure.FigureReader.{FigureReader}

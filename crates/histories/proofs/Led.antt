@@ -1,19 +1,17 @@
 -- What a list of calls does to a sheet.
-use Rattle.std.proofs.Common.{◌≡◌, ℕ, ◌+◌, ◌-◌, ◌<◌, ◌≤◌, min, ◌⊎◌, List, [], ◌∷◌, ◌++◌, map, reverse, length, get_or, take, drop, Ok, Err, Result, sym, refl, ap, ◌∙◌, subst, inl, inr, arith}
-use Rattle.std.proofs.lemmas.List.{take_all, drop_all, take_rest, take-map, drop-map, length-take, take_more, map_push, reverse-append}
+use Rattle.std.proofs.Common.{◌≡◌, ℕ, ◌+◌, ◌-◌, ◌<◌, List, [], ◌∷◌, map, reverse, length, get_or, take, drop, Ok, Err, Result, sym, refl, ap, ◌∙◌, subst, inl, inr, arith}
+use Rattle.std.proofs.lemmas.List.{take_all, drop_all, take_rest, take-map, drop-map, take_more, map_push, reverse-append}
 use Rattle.kinds.specs.Kinds.{Kind, Of}
 use Rattle.shelves.specs.declared.row.Mark.{Mark}
 use Rattle.transform.specs.Windows.{Record}
 use Rattle.sheets.specs.declared.sheet.Stop.{Stop}
 use Rattle.sheets.specs.declared.sheet.Stop.TheVariants.{Refused, Unreachable}
 use Rattle.histories.specs.declared.steps.Step.{Step}
-use Rattle.splitting.specs.Records.{Lowest}
 use Rattle.sheets.specs.Takes.{State, Take}
-use Rattle.sheets.specs.Calls.{Call, taking, marking, marking_one}
+use Rattle.sheets.specs.Calls.{taking, marking, marking_one}
 use Rattle.sheets.specs.Marks.{Marking}
-use Rattle.sheets.specs.History.{Calls, Shows, Strays}
 use Rattle.sheets.specs.Promise.{Promise, Continues}
-use Rattle.histories.specs.Steps.{call_of, calls_of, Leaves, Lead, GoesOn}
+use Rattle.histories.specs.Steps.{call_of, calls_of, Lead, GoesOn}
 
 module _ {W : Type 0} (K : Kind) (s t : State) (w : List W) where
   pub range_goes_on : {A : Type 0} (m : Mark) (low high : ℕ) (u v : A) (r : Result ℕ Stop) → (v ≡ u → t ≡ s) → Marking K (marking m low high) s t u v r → Continues K (marking m low high) s t r → GoesOn K (marking m low high) s t w w

@@ -1,8 +1,8 @@
 -- A kind of total: what it fixes for all its values, the laws of that, and what its calls answer.
-use Rattle.std.specs.Prelude.{◌≡◌, ℕ, ◌≤◌, Bool, true, false, ℤ, pos, Some, None, Option}
+use Rattle.std.specs.Prelude.{◌≡◌, ℕ, ◌≤◌, Bool, true, false, pos, Some, None, Option}
 use Rattle.std.specs.declared.cmp.Ordering.TheVariants.{Less, Equal, Greater}
 use Rattle.std.specs.declared.cmp.Ordering.{Ordering}
-use Rattle.kinds.specs.Columns.{Arity, Each, All, Columns, plus, nought, times, within, fits64, column, replaced}
+use Rattle.kinds.specs.Columns.{Arity, Each, All, Columns, plus, times, within, fits64, replaced}
 
 -- the name of a column, and its code
 pub data Name : Type 0 where

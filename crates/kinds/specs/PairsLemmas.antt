@@ -1,10 +1,9 @@
 -- The pair of two one-column kinds keeps the laws of a kind.
-use Rattle.std.specs.Prelude.{◌≡◌, ℕ, Bool, true, false, not, ◌&&◌, ◌||◌, ℤ, pos, ◌+ℤ◌, Some, refl}
-use Rattle.std.proofs.Common.{ap, ap₂, ◌∙◌, arith}
-use Rattle.std.proofs.lemmas.Int.{ints}
-use Rattle.kinds.specs.Columns.{Arity, one, two, Each, Columns, All, fits64, replaced}
-use Rattle.kinds.specs.Kinds.{Kind, Lawful, Name, Of}
-use Rattle.kinds.specs.Pairs.{only, alone, below_in, has_in, pair}
+use Rattle.std.specs.Prelude.{◌≡◌, ℕ, Bool, true, false, ℤ, pos, ◌+ℤ◌, Some, refl}
+use Rattle.std.proofs.Common.{ap₂, arith}
+use Rattle.kinds.specs.Columns.{Arity, one, two, Each, Columns, replaced}
+use Rattle.kinds.specs.Kinds.{Kind, Lawful, Name}
+use Rattle.kinds.specs.Pairs.{only, below_in, has_in, pair}
 use Rattle.kinds.specs.Singles.{two_is_not_one}
 
 -- a one-column kind of such an order, bound, range and name

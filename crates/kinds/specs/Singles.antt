@@ -5,7 +5,7 @@ use Rattle.std.specs.declared.cmp.Ordering.{Ordering}
 use Rattle.std.proofs.Common.{ap, ap₂, ◌∙◌, sym, subst, arith}
 use Rattle.kinds.specs.Columns.{Arity, one, two, Each, Columns, nought, plus, minus, within, column, replaced}
 use Rattle.kinds.specs.Kinds.{Kind, Of, Gives, GivesIf, Compared}
-use Rattle.kinds.specs.Pairs.{only, alone, below_in, has_in, GivesNumber}
+use Rattle.kinds.specs.Pairs.{only, alone, below_in, GivesNumber}
 
 pub two_is_not_one : two ≡ one → ⊥
 two_is_not_one e = let z : ◌≡◌ {A = ℕ} 0 1 = cc in omega arith

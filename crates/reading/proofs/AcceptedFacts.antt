@@ -1,15 +1,15 @@
 -- An accepted text has the lines that it should have.
-use Rattle.std.proofs.Common.{◌≡◌, ℕ, suc, ◌+◌, ◌<◌, ◌≤◌, Bool, true, false, cond, not, ◌&&◌, eqb, ltb, List, [], ◌∷◌, ◌++◌, map, length, take, ℤ, pos, negsuc, is_some, Some, None, Ok, Err, Option, Result, sym, refl, ap, ◌∙◌, subst, arith}
+use Rattle.std.proofs.Common.{◌≡◌, ℕ, ◌+◌, ◌<◌, Bool, true, false, cond, ◌&&◌, eqb, ltb, List, [], ◌∷◌, ◌++◌, length, ℤ, pos, negsuc, is_some, Some, None, Ok, Err, Option, Result, sym, refl, ap, ◌∙◌, subst, arith}
 use Rattle.std.proofs.lemmas.Bool.{and_parts, eqb-true, ltb-false, false≢true}
 use Rattle.kinds.specs.Columns.{within}
-use Rattle.kinds.specs.Kinds.{Kind, Of, Lawful}
+use Rattle.kinds.specs.Kinds.{Kind, Of}
 use Rattle.figures.specs.declared.heading.Heading.TheVariants.{Day}
 use Rattle.reading.specs.Accepted.{AllFigures, LineOf, LinesOf, TextOf}
 use Rattle.refusals.specs.Faults.{Finding}
 use Rattle.figures.specs.Figures.{figure}
 use Rattle.figures.specs.Headings.{letters, twins}
-use Rattle.reading.specs.Parts.{lines, fields, start_under}
-use Rattle.reading.specs.Traces.{refuse, then, unless_at, malformed, number_under, is_day, columns_under, entered, check_line, read_line, none, push, read_lines, trace_names, bad_name, all_among, check_names, read_all, read_text, within_room}
+use Rattle.reading.specs.Parts.{lines, fields}
+use Rattle.reading.specs.Traces.{then, unless_at, malformed, number_under, is_day, columns_under, check_line, read_line, none, push, read_lines, trace_names, bad_name, all_among, check_names, read_all, read_text, within_room}
 use Rattle.reading.proofs.PartFacts.{parts_some}
 
 pub never : {X : Type 0} {E : Type 0} (e : E) (x : X) → Err e ≡ Ok x → ⊥

@@ -1,12 +1,12 @@
 -- Lemmas on the lines of a trace text.
-use Rattle.std.proofs.Common.{◌≡◌, ℕ, suc, ◌+◌, ◌<◌, ◌≤◌, Bool, true, false, cond, List, [], ◌∷◌, ◌++◌, map, length, take, drop, set, Some, None, Ok, Err, Option, Result, sym, refl, ap, ◌∙◌, subst, inl, inr, add-one, arith}
+use Rattle.std.proofs.Common.{◌≡◌, ℕ, ◌+◌, ◌<◌, ◌≤◌, true, false, cond, List, [], ◌∷◌, ◌++◌, map, length, take, drop, set, Some, None, Ok, Err, Option, Result, sym, refl, ap, ◌∙◌, subst, arith}
 use Rattle.std.proofs.lemmas.Bool.{lt-ltb, le-ltb}
-use Rattle.std.proofs.lemmas.List.{append-nil, append_assoc, length-append, length_push, length-set, take_more_set, map_push, drop-set-lt, drop-drop}
+use Rattle.std.proofs.lemmas.List.{append-nil, append_assoc, length_push, length-set, take_more_set, map_push, drop-set-lt, drop-drop}
 use Rattle.kinds.specs.Kinds.{Kind, Of}
 use Rattle.refusals.specs.declared.fault.LineFault.{LineFault}
 use Rattle.refusals.specs.declared.fault.FieldFault.{FieldFault}
 use Rattle.refusals.specs.Faults.{Finding, at_line, at_name, line_found}
-use Rattle.reading.specs.Parts.{fields, lines, parts}
+use Rattle.reading.specs.Parts.{fields, lines}
 use Rattle.reading.specs.Traces.{none, push, onto, refuse, read_line, read_lines, read_all, bad_name, all_among, trace_names, told, counted, within_room, Midway, LinesRead, Reads}
 use Rattle.reading.proofs.PartFacts.{parts_some}
 

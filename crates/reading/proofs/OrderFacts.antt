@@ -1,9 +1,7 @@
 -- Lemmas on the order of findings.
-use Rattle.std.proofs.Common.{◌≡◌, ℕ, ◌<◌, ◌≤◌, not, ◌⊎◌, [], ◌∷◌, ap, inl, inr, arith}
-use Rattle.kinds.specs.Columns.{one}
+use Rattle.std.proofs.Common.{◌≡◌, ℕ, ◌<◌, ◌≤◌, ◌⊎◌, [], ◌∷◌, ap, inl, inr, arith}
 use Rattle.refusals.specs.Faults.{Finding}
 use Rattle.reading.specs.Refused.{stage, turn, Sooner, Before}
-use Rattle.reading.specs.Traces.{then}
 
 -- in one line the turn decides, and then the byte
 pub in_turn : (g f : Finding) → Before g f → stage f ≤ stage g → f.line ≤ g.line → (turn g.number < turn f.number) ⊎ ((turn g.number ≡ turn f.number) × (g.byte < f.byte))

@@ -9,7 +9,7 @@ use Rattle.figures.specs.Figures.{figure}
 use Rattle.figures.specs.Headings.{letters}
 use Rattle.reading.specs.Parts.{start_under}
 use Rattle.reading.specs.Refused.{finding, spread, PartOf, LineMeets, miscounted, no_figure, out_of_turn, past_the_last, may_not_enter, stage, turn, Before}
-use Rattle.reading.specs.Traces.{among, all_among, trace_names, malformed, number_under, is_day, columns_under, check_line, then, read_line}
+use Rattle.reading.specs.Traces.{all_among, trace_names, malformed, number_under, is_day, columns_under, check_line, read_line}
 use Rattle.reading.proofs.AcceptedFacts.{then_ok, cond_ok, cond_not_ok, unless_ok, figures_all, day_is}
 use Rattle.reading.proofs.OrderFacts.{in_turn}
 use Rattle.reading.proofs.PlaceFacts.{leftmost, leftmost_none, leftmost_some}

@@ -10,7 +10,7 @@ use Rattle.refusals.specs.Faults.{Finding}
 use Rattle.figures.specs.Figures.{figure}
 use Rattle.figures.specs.Headings.{letters, twins}
 use Rattle.reading.specs.Parts.{parts, longer, lines, fields, start_under}
-use Rattle.reading.specs.Traces.{among, all_among, trace_names, bad_name, malformed, number_under, is_day, columns_under, entered, unless_at, check_line, then, read_line, none, push, read_lines, check_names, read_all, within_room, read_text}
+use Rattle.reading.specs.Traces.{among, all_among, trace_names, bad_name, malformed, number_under, is_day, columns_under, unless_at, check_line, then, read_line, none, push, read_lines, check_names, read_all, within_room, read_text}
 use Rattle.reading.proofs.PartFacts.{parts_some}
 
 -- the bytes of some parts, with one behind each

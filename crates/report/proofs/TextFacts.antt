@@ -3,7 +3,6 @@ use Rattle.std.proofs.Common.{◌≡◌, ℕ, zero, suc, ◌+◌, ◌-◌, ◌<�
 use Rattle.std.proofs.lemmas.List.{append-nil, append_assoc, length-append, length-take-le, take_more, take_all}
 use Rattle.kinds.specs.Columns.{Arity, one, two, Columns, nought}
 use Rattle.kinds.specs.Kinds.{Kind, Of}
-use Rattle.refusals.specs.Table.{number}
 use Rattle.shelves.specs.Slots.{Entry, listed, is_out}
 use Rattle.transform.specs.Pulses.{Pulse, pulses}
 use Rattle.sheets.specs.declared.questions.ListedPulse.{ListedPulse}

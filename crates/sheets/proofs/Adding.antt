@@ -1,12 +1,11 @@
 -- What one row adds to a standing total, and the first rows together.
-use Rattle.std.proofs.Common.{◌≡◌, ℕ, zero, suc, ◌+◌, ◌-◌, ◌*◌, ◌<◌, ◌≤◌, Bool, true, false, cond, not, ◌&&◌, ltb, leb, ◌⊎◌, List, [], ◌∷◌, ◌++◌, length, get_or, ℤ, Some, None, Ok, Err, Option, Result, sym, refl, ap, ◌∙◌, subst, inl, inr, add-one, arith}
-use Rattle.std.proofs.lemmas.Bool.{cases_Bool, cases_eq}
-use Rattle.std.proofs.lemmas.List.{append-nil}
+use Rattle.std.proofs.Common.{◌≡◌, ℕ, ◌+◌, ◌<◌, ◌≤◌, true, false, ◌&&◌, ltb, leb, ◌⊎◌, List, [], ◌∷◌, get_or, None, Ok, Err, Option, Result, sym, refl, ap, ◌∙◌, subst, inl, inr, add-one, arith}
+use Rattle.std.proofs.lemmas.Bool.{cases_eq}
 use Rattle.kinds.specs.Columns.{Arity, one, two, Columns, nought, plus}
-use Rattle.kinds.specs.Kinds.{Kind, Of, Lawful}
+use Rattle.kinds.specs.Kinds.{Kind, Of}
 use Rattle.shelves.specs.Slots.{Entry, slot_of, listed}
-use Rattle.transform.specs.Pulses.{Pulse, covers, standing}
-use Rattle.transform.proofs.Group.{plus_nought, nought_plus}
+use Rattle.transform.specs.Pulses.{covers, standing}
+use Rattle.transform.proofs.Group.{plus_nought}
 use Rattle.transform.proofs.Sums.{standing_none, standing_append}
 use Rattle.sheets.specs.declared.sheet.Stop.{Stop}
 use Rattle.sheets.specs.declared.sheet.Stop.TheVariants.{Refused, Unreachable}

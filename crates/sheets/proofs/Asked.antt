@@ -1,22 +1,22 @@
 -- What the questions of a sheet come to.
-use Rattle.std.proofs.Common.{◌≡◌, ℕ, zero, suc, ◌+◌, ◌-◌, ◌*◌, ◌<◌, ◌≤◌, Bool, true, false, cond, not, ◌⊎◌, List, [], ◌∷◌, ◌++◌, map, length, get_or, take, drop, set, ℤ, Some, None, Ok, Err, Option, Result, sym, refl, ap, ◌∙◌, subst, inl, inr, mul-le-mul_right, add-one, arith}
-use Rattle.std.proofs.lemmas.Bool.{cases_Bool, cases_eq, cases_lt, both_ways, cond-true, cond-false}
+use Rattle.std.proofs.Common.{◌≡◌, ℕ, suc, ◌+◌, ◌-◌, ◌*◌, ◌<◌, ◌≤◌, true, List, [], ◌∷◌, ◌++◌, map, length, get_or, take, drop, set, ℤ, Some, None, Ok, Err, Result, sym, refl, ap, ◌∙◌, subst, inl, inr, add-one, arith}
+use Rattle.std.proofs.lemmas.Bool.{cases_eq, cases_lt, both_ways, cond-true, cond-false}
 use Rattle.std.proofs.lemmas.List.{take_more_set, map_push, drop-set-lt, drop-drop}
 use Rattle.std.proofs.ByRecursion.{All-get_or}
 use Rattle.std.proofs.lemmas.List.FromFn.{length-map-range_with_len, get_or-map-range_with_len, map-range_with_len_more, take-map-range_with_len}
 use Rattle.kinds.specs.Columns.{nought, plus, minus}
 use Rattle.kinds.specs.Kinds.{Kind, Of, Lawful}
-use Rattle.shelves.specs.Slots.{Entry, slot_of}
+use Rattle.shelves.specs.Slots.{slot_of}
 use Rattle.shelves.specs.Stretches as stretches
-use Rattle.transform.specs.Windows.{Record, Trace, trace, days}
-use Rattle.transform.specs.Pulses.{Pulse, pulses, standing, size, summed, swing}
+use Rattle.transform.specs.Windows.{Trace, trace, days}
+use Rattle.transform.specs.Pulses.{Pulse, pulses, size, summed, swing}
 use Rattle.transform.proofs.Smooths.{trace_outside}
 use Rattle.sheets.specs.declared.sheet.Stop.{Stop}
 use Rattle.sheets.specs.declared.sheet.Stop.TheVariants.{Refused, Unreachable}
 use Rattle.sheets.specs.Takes.{State}
-use Rattle.sheets.specs.History.{Calls, row, Shows}
-use Rattle.sheets.specs.Standing.{stand_in, standing_total, standing_trace, standing_swing}
-use Rattle.sheets.specs.Questions.{Unled, ComesOut, Listed, Filled, Traced}
+use Rattle.sheets.specs.History.{Calls, Shows}
+use Rattle.sheets.specs.Standing.{standing_total, standing_trace, standing_swing}
+use Rattle.sheets.specs.Questions.{Unled, ComesOut, Listed, Traced}
 use Rattle.sheets.specs.Inside.{RowHeld, Stands, Steps, step, SwingsSoFar}
 use Rattle.sheets.proofs.Slots.{slot_cases}
 use Rattle.sheets.proofs.History.{shows_full}

@@ -1,8 +1,8 @@
 -- What each call does to the history.
-use Rattle.std.proofs.Common.{◌≡◌, ℕ, zero, suc, ◌+◌, ◌-◌, ◌<◌, ◌≤◌, Bool, true, false, cond, ◌&&◌, eqb, leb, ◌⊎◌, List, [], ◌∷◌, ◌++◌, map, length, get_or, drop, Some, None, Ok, Err, Decides, Option, Result, sym, refl, ap, ◌∙◌, subst, inl, inr, arith}
+use Rattle.std.proofs.Common.{◌≡◌, ℕ, zero, suc, ◌-◌, ◌<◌, ◌≤◌, Bool, true, false, cond, ◌&&◌, eqb, leb, ◌⊎◌, List, [], ◌∷◌, ◌++◌, map, length, get_or, drop, Some, None, Ok, Err, Decides, Option, Result, sym, refl, ap, ◌∙◌, subst, inl, inr, arith}
 use Rattle.std.specs.List.{ContainsAt as Has, AllByRecursion as All}
 use Rattle.std.proofs.lemmas.Bool.{cases_Bool, cases_eq, cases_lt, cases_order, both_ways, and_parts, and_from, leb-true, le-leb, eqb-true, eq-eqb, ne_eqb}
-use Rattle.std.proofs.ByRecursion.{has_get_or, All-get_or}
+use Rattle.std.proofs.ByRecursion.{All-get_or}
 use Rattle.std.proofs.lemmas.List.{get_or_default, get_or_append_left, get_or-map, length-append, length-map, length-drop}
 use Rattle.kinds.specs.Columns.{nought}
 use Rattle.kinds.specs.Kinds.{Kind, Lawful}
@@ -20,9 +20,9 @@ use Rattle.sheets.specs.declared.sheet.Stop.{Stop}
 use Rattle.sheets.specs.declared.sheet.Stop.TheVariants.{Refused, Unreachable}
 use Rattle.splitting.specs.Records.{Accepted, row_of, laid}
 use Rattle.sheets.specs.Takes.{State, Taken, Take, opened}
-use Rattle.sheets.specs.Calls.{Call, taking, marking, marking_one, Grounds, Allowed, Numbered, Names, Removes}
-use Rattle.sheets.specs.Marks.{looks, named, outward, remarked, marked, Marked, Stays, Marking}
-use Rattle.sheets.specs.History.{Calls, Takes, LastTake, Held, Concerns, Out, row, Shows, Strays}
+use Rattle.sheets.specs.Calls.{Call, taking, marking, marking_one, Grounds, Allowed, Names, Removes}
+use Rattle.sheets.specs.Marks.{named, outward, marked, Marked, Stays, Marking}
+use Rattle.sheets.specs.History.{Calls, Takes, Held, Concerns, Out, row, Shows, Strays}
 use Rattle.sheets.proofs.Slots.{some_not_none}
 
 -- a list split behind its first element

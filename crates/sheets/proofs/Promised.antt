@@ -1,18 +1,16 @@
 -- A sheet that shows a history keeps the promise.
-use Rattle.std.proofs.Common.{◌≡◌, ℕ, zero, suc, ◌+◌, ◌-◌, ◌<◌, ◌≤◌, Bool, true, false, cond, not, ltb, ◌⊎◌, ◌↔◌, List, [], ◌∷◌, length, get_or, Decides, Result, sym, refl, ap, ◌∙◌, subst, inl, inr, arith}
+use Rattle.std.proofs.Common.{◌≡◌, ℕ, suc, ◌<◌, ◌≤◌, Bool, true, false, cond, not, ltb, ◌⊎◌, ◌↔◌, List, [], ◌∷◌, length, Decides, Result, sym, refl, ap, ◌∙◌, subst, inl, inr, arith}
 use mathlib.Core.Path.{fun_ext}
 use Rattle.std.specs.List.{ContainsAt as Has, AllByRecursion as All}
-use Rattle.std.proofs.lemmas.Bool.{cases_Bool, cases_lt, both_ways, ltb-true, ltb-false, lt-ltb, le-ltb, not-true, not-false, cond-true, cond-false}
+use Rattle.std.proofs.lemmas.Bool.{cases_Bool, cases_lt, both_ways, ltb-false, lt-ltb, le-ltb}
 use Rattle.std.proofs.lemmas.List.{ext_get_or}
-use Rattle.std.proofs.ByRecursion.{all-has}
 use Rattle.std.proofs.lemmas.List.FromFn.{length-map-range_with_len}
 use Rattle.kinds.specs.Columns.{nought, plus}
-use Rattle.kinds.specs.Kinds.{Kind, Of, Lawful}
+use Rattle.kinds.specs.Kinds.{Kind, Lawful}
 use Rattle.transform.specs.Windows.{Record, Trace, trace, days, smooth}
 use Rattle.transform.specs.Pulses.{Pulse, pulses, chosen, covers, standing, sizes, swing}
-use Rattle.transform.proofs.Smooths.{Outside, trace_outside, trace_days, length_smooth}
-use Rattle.transform.proofs.Group.{plus_assoc, plus_comm, plus_left_comm, plus_nought, nought_plus}
-use Rattle.transform.proofs.Sums.{standing_none}
+use Rattle.transform.proofs.Smooths.{trace_days, length_smooth}
+use Rattle.transform.proofs.Group.{plus_assoc, plus_left_comm, plus_nought}
 use Rattle.transform.proofs.Stages.{pulses_sum, wider_sum}
 use Rattle.transform.proofs.Listing.{covers_first, covers_last}
 use Rattle.transform.proofs.Choosing.{pulses_differ}
@@ -21,7 +19,7 @@ use Rattle.sheets.specs.declared.sheet.Stop.{Stop}
 use Rattle.sheets.specs.Takes.{State}
 use Rattle.sheets.specs.Calls.{Call}
 use Rattle.sheets.specs.History.{Calls, Out, Shows}
-use Rattle.sheets.specs.Standing.{left, standing_total, standing_trace, standing_swing}
+use Rattle.sheets.specs.Standing.{standing_total, standing_trace, standing_swing}
 use Rattle.sheets.specs.Promise.{OutExactly, Promise, Continues}
 use Rattle.sheets.proofs.Bounds.{Fair}
 use Rattle.sheets.proofs.History.{held_one, ShowsOn}

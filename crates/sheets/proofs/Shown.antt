@@ -1,19 +1,18 @@
 -- What is true of a sheet that shows a history.
-use Rattle.std.proofs.Common.{◌≡◌, ℕ, zero, suc, ◌+◌, ◌-◌, ◌*◌, ◌<◌, ◌≤◌, Bool, true, false, cond, not, ◌⊎◌, List, [], ◌∷◌, ◌++◌, length, get_or, take, Some, None, Option, sym, refl, ap, ◌∙◌, subst, inl, inr, mul-le-mul_right, add-one, arith}
-use Rattle.std.specs.List.{ContainsAt as Has, AllByRecursion as All}
+use Rattle.std.proofs.Common.{◌≡◌, ℕ, zero, suc, ◌*◌, ◌<◌, ◌≤◌, Bool, true, false, not, List, [], ◌∷◌, ◌++◌, length, get_or, take, None, sym, refl, ap, ◌∙◌, subst, inl, inr, add-one, arith}
+use Rattle.std.specs.List.{AllByRecursion as All}
 use Rattle.std.proofs.lemmas.Bool.{cases_Bool, cases_eq, cases_lt, both_ways}
-use Rattle.std.proofs.lemmas.List.{append-nil, take_more, take_all, length-take-le}
-use Rattle.std.proofs.ByRecursion.{All-get_or, All-weaker, All-take}
+use Rattle.std.proofs.lemmas.List.{take_more, take_all, length-take-le}
+use Rattle.std.proofs.ByRecursion.{All-weaker, All-take}
 use Rattle.kinds.specs.Columns.{nought, within}
-use Rattle.kinds.specs.Kinds.{Kind, Of, Lawful}
+use Rattle.kinds.specs.Kinds.{Kind, Lawful}
 use Rattle.refusals.specs.declared.refusal.Refusal.TheVariants.{TooManyDays, MayNotEnter}
-use Rattle.shelves.specs.Slots.{Entry}
 use Rattle.transform.specs.Windows.{Record, trace}
 use Rattle.transform.specs.Pulses.{Pulse, pulses, chosen, standing}
 use Rattle.transform.proofs.Smooths.{trace_outside}
 use Rattle.transform.proofs.Stages.{chosen_append}
 use Rattle.transform.proofs.Counts.{pulses_few}
-use Rattle.splitting.specs.Records.{Accepted, Barred}
+use Rattle.splitting.specs.Records.{Accepted}
 use Rattle.sheets.specs.Takes.{State}
 use Rattle.sheets.specs.History.{Calls, Held, row, Shows}
 use Rattle.sheets.specs.Standing.{pulse_of, stands_in, stand_in, left}

@@ -1,15 +1,14 @@
 -- What marking does to one slot, and to the first slots one after another.
-use Rattle.std.proofs.Common.{◌≡◌, ℕ, zero, suc, ◌+◌, ◌-◌, ◌<◌, ◌≤◌, Bool, true, false, cond, eqb, leb, ◌≢◌, ◌⊎◌, List, length, get_or, set, ℤ, Some, None, Ok, Err, Option, Result, sym, refl, ap, ◌∙◌, subst, inl, inr, add-zero, zero-add, add-one, arith}
+use Rattle.std.proofs.Common.{◌≡◌, ℕ, zero, suc, ◌+◌, ◌-◌, ◌<◌, ◌≤◌, Bool, true, false, ◌⊎◌, List, length, get_or, set, ℤ, Some, None, Ok, Err, Option, Result, sym, refl, ap, ◌∙◌, subst, inl, inr, add-zero, zero-add, add-one, arith}
 use Rattle.sheets.specs.declared.sheet.Stop.{Stop}
 use Rattle.std.proofs.lemmas.List.{set-get_or, length-set, get_or-set_same, get_or-set_other, get_or_past}
 use Rattle.std.proofs.lemmas.Bool.{cases_lt, cases_eq, cases_Bool, and_left, and_right, lt-leb, ne_eqb, eqb-true, eq-eqb}
 use Rattle.kinds.specs.Kinds.{Kind}
 use Rattle.shelves.specs.declared.row.Mark.{Mark}
-use Rattle.shelves.specs.declared.row.Mark.TheVariants.{In, Out}
-use Rattle.shelves.specs.Slots.{Entry, number, slot_of, is_out}
+use Rattle.shelves.specs.Slots.{Entry, slot_of}
 use Rattle.sheets.specs.declared.sheet.Stop.TheVariants.{Refused, Unreachable}
 use Rattle.sheets.specs.Calls.{Call, marking, marking_one}
-use Rattle.sheets.specs.Marks.{looks, named, outward, remarked, marked, change, marks_changed, Marked, Blank}
+use Rattle.sheets.specs.Marks.{looks, named, outward, marked, change, marks_changed, Marked, Blank}
 use Rattle.sheets.specs.Inside.{SlotMarked, SlotsMarked}
 
 pub some_not_none : {A : Type 0} (o : Option A) (a : A) → o ≡ Some a → o ≡ None → ⊥

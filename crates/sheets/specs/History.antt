@@ -1,6 +1,6 @@
 -- The history of a sheet: its calls other than questions, the newest first. From it follow the
 -- record held and the pulses out.
-use Rattle.std.specs.Prelude.{◌≡◌, ℕ, ◌<◌, Bool, true, ◌⊎◌, List, [], ◌∷◌, ◌++◌, length, Some, None, Ok, Err, Decides, Option, Result, slice_index_or}
+use Rattle.std.specs.Prelude.{◌≡◌, ℕ, ◌<◌, Bool, ◌⊎◌, List, [], ◌∷◌, ◌++◌, length, Some, None, Ok, Err, Decides, Result, slice_index_or}
 use Rattle.std.specs.List.{ContainsAt as Has, AllByRecursion as All}
 use Rattle.kinds.specs.Kinds.{Kind}
 use Rattle.shelves.specs.Slots.{Entry, listed}

@@ -1,5 +1,5 @@
 -- What remove, restore, remove one and restore one answer, and what they leave in every slot.
-use Rattle.std.specs.Prelude.{◌≡◌, ℕ, zero, suc, ◌+◌, ◌<◌, ◌≤◌, Bool, true, false, cond, not, ◌&&◌, List, length, get_or, Some, None, Ok, Err, Option, Result, ◌==◌, ◌≢◌, nat_le, slice_index_or}
+use Rattle.std.specs.Prelude.{◌≡◌, ℕ, zero, suc, ◌+◌, ◌<◌, ◌≤◌, Bool, true, false, cond, ◌&&◌, List, length, get_or, Some, None, Ok, Err, Option, Result, ◌==◌, ◌≢◌, nat_le, slice_index_or}
 use Rattle.kinds.specs.Kinds.{Kind}
 use Rattle.shelves.specs.Slots.{Entry, is_out}
 use Rattle.sheets.specs.declared.sheet.Stop.{Stop}

@@ -2,7 +2,7 @@
 use Rattle.std.specs.Prelude.{◌≡◌, ℕ, ◌≤◌, ◌↔◌, ◌∷◌, length, Result}
 use Rattle.std.specs.List.{ContainsAt as Has}
 use Rattle.kinds.specs.Columns.{plus}
-use Rattle.kinds.specs.Kinds.{Kind, Of}
+use Rattle.kinds.specs.Kinds.{Kind}
 use Rattle.transform.specs.Windows.{Record, trace, smooth}
 use Rattle.transform.specs.Pulses.{Pulse, pulses, chosen, standing, sizes, swing}
 use Rattle.sheets.specs.declared.sheet.Stop.{Stop}

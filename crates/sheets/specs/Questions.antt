@@ -1,5 +1,5 @@
 -- What the questions of a sheet answer.
-use Rattle.std.specs.Prelude.{◌≡◌, ℕ, ◌-◌, ◌<◌, ◌≤◌, ◌⊎◌, List, map, length, take, drop, Some, None, Ok, Err, Option, Result, slice_index_or}
+use Rattle.std.specs.Prelude.{◌≡◌, ℕ, ◌-◌, ◌<◌, ◌≤◌, ◌⊎◌, List, map, length, take, drop, Some, None, Ok, Err, Result, slice_index_or}
 use Rattle.kinds.specs.Kinds.{Kind, Of}
 use Rattle.refusals.specs.Table.{number}
 use Rattle.shelves.specs.Slots.{Entry, is_out, listed}

@@ -1,6 +1,6 @@
 -- What stands on a sheet: the pulses marked in, and what they add up to.
 use Rattle.std.specs.Prelude.{ℕ, zero, suc, cond, List, [], ◌∷◌, ◌++◌, ℤ, pos, Some, None, Option, slice_index_or}
-use Rattle.kinds.specs.Columns.{Arity, one, two, Columns, nought}
+use Rattle.kinds.specs.Columns.{Arity, one, two, Columns}
 use Rattle.kinds.specs.Kinds.{Kind, Of}
 use Rattle.shelves.specs.Slots.{Entry}
 use Rattle.transform.specs.Windows.{Record, trace, days}

@@ -1,5 +1,5 @@
 -- An amount made of the columns in a slot: zero, then column 1 replaced, then column 2.
-use Rattle.std.proofs.Common.{◌≡◌, ℕ, ◌<◌, ◌≤◌, Bool, true, false, List, length, ℤ, pos, Some, None, Option, sym, refl, ap, ◌∙◌, inl, inr, ⊎_elim, arith}
+use Rattle.std.proofs.Common.{◌≡◌, ℕ, ◌<◌, ◌≤◌, Bool, false, List, length, ℤ, pos, Some, None, Option, sym, refl, ap, ◌∙◌, ⊎_elim, arith}
 use Rattle.std.proofs.lemmas.Bool.{cases_Bool, both_ways}
 use Rattle.kinds.specs.Columns.{Arity, one, two, Each, Columns, nought, replaced}
 use Rattle.kinds.specs.Kinds.{Kind, Of, Name, Lawful, Gives, GivesIf}

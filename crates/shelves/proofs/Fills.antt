@@ -1,10 +1,9 @@
 -- What the writes of parts of a slot leave.
-use Rattle.std.proofs.Common.{◌≡◌, ℕ, ◌+◌, ◌-◌, ◌*◌, ◌<◌, ◌≤◌, List, [], ◌∷◌, ◌++◌, length, take, drop, ℤ, Some, None, sym, refl, ap, ◌∙◌, append-nil, arith}
+use Rattle.std.proofs.Common.{◌≡◌, ℕ, ◌*◌, ◌<◌, ◌≤◌, List, [], ◌++◌, length, drop, ℤ, Some, ap, ◌∙◌, append-nil, arith}
 use borrow.Rule.Slice.PartMut.{put_mid, post_of}
 use Rattle.std.proofs.lemmas.List.{take_at, drop_all, length-drop, length-append}
 use Rattle.kinds.specs.Columns.{Arity, one, two, Columns, column}
-use Rattle.shelves.specs.Bytes.{count, bytes_of, bytes_of_signed, packed_columns}
-use Rattle.shelves.proofs.Little.{length_bytes_of}
+use Rattle.shelves.specs.Bytes.{count, bytes_of_signed, packed_columns}
 
 -- a front, and then all that is left written over
 pub rest_filled : (front back new : List ℕ) (n k : ℕ) → length front ≡ n → length back ≤ k → put_mid n k (front ++ back) new ≡ front ++ new

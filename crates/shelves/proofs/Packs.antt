@@ -1,12 +1,12 @@
 -- A row in bytes shows as the row.
-use Rattle.std.proofs.Common.{◌≡◌, ℕ, ◌+◌, ◌*◌, ◌^◌, ◌<◌, ◌≤◌, Bool, true, false, cond, List, [], ◌∷◌, ◌++◌, length, ℤ, pos, negsuc, Some, None, sym, refl, ap, ◌∙◌, arith, w64, SFits, to_z, of_z}
+use Rattle.std.proofs.Common.{◌≡◌, ℕ, ◌*◌, ◌^◌, ◌<◌, Bool, true, cond, [], ◌∷◌, length, ℤ, pos, negsuc, None, refl, ap, ◌∙◌, arith, w64, to_z, of_z}
 use Rattle.std.proofs.lemmas.Int.{to_z-of_z}
 use Rattle.std.proofs.lemmas.Bool.{ltb-true, cond-true}
 use Rattle.kinds.specs.Columns.{Arity, one, two, Columns, Each, fits64}
 use Rattle.kinds.specs.Kinds.{Kind, Of, Name, Lawful}
 use Rattle.shelves.specs.declared.row.Row.{Row}
-use Rattle.shelves.specs.Bytes.{count, bytes_of, bytes_of_signed, little, packed, packed_columns, signed, size, stored, unpacked}
-use Rattle.shelves.specs.Slots.{listed, shown, slot_of}
+use Rattle.shelves.specs.Bytes.{count, bytes_of_signed, packed, packed_columns, signed, size, unpacked}
+use Rattle.shelves.specs.Slots.{shown, slot_of}
 use Rattle.shelves.proofs.Amounts.{made}
 use Rattle.shelves.proofs.Little.{little_bytes_of}
 

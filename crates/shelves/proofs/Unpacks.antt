@@ -1,10 +1,10 @@
 -- What the bytes of a slot show.
-use Rattle.std.proofs.Common.{◌≡◌, ℕ, ◌+◌, ◌<◌, ◌≤◌, Bool, true, false, cond, ◌&&◌, leb, List, [], ◌∷◌, length, get_or, take, drop, Some, None, Option, sym, refl, ap, ◌∙◌, inl, inr, ⊎_elim, arith}
+use Rattle.std.proofs.Common.{◌≡◌, ℕ, ◌+◌, ◌≤◌, Bool, true, false, cond, ◌&&◌, leb, List, [], ◌∷◌, length, get_or, take, None, Option, sym, refl, ap, ◌∙◌, inl, inr, arith}
 use Rattle.std.proofs.lemmas.List.{drop_more}
-use Rattle.std.proofs.lemmas.Bool.{cases_Bool, and_cases, and_parts, and_from, and_left, and_right, leb-true, leb-false, cond-true, cond-false}
+use Rattle.std.proofs.lemmas.Bool.{and_cases, and_parts, and_from, and_left, and_right, leb-false, cond-true, cond-false}
 use Rattle.kinds.specs.Kinds.{Kind, Of}
 use Rattle.shelves.specs.declared.row.Row.{Row}
-use Rattle.shelves.specs.Bytes.{clear, little, part, size, stored, unpacked}
+use Rattle.shelves.specs.Bytes.{clear, little, part, stored, unpacked}
 use Rattle.shelves.specs.Slots.{Entry, listed, shown, slot_of}
 use Rattle.shelves.proofs.Blanks.{blank_mark}
 

@@ -1,9 +1,9 @@
 -- A difference of two totals that may be entered has a value.
-use Rattle.std.proofs.Common.{◌≡◌, ℕ, ◌+◌, ◌*◌, ◌≤◌, true, false, is_some, Some, None, Option, refl, arith}
+use Rattle.std.proofs.Common.{◌≡◌, ◌+◌, true, is_some, Some, None, Option, refl, arith}
 use Rattle.std.proofs.lemmas.Bool.{both_ways}
 use Rattle.kinds.specs.Columns.{minus, within}
 use Rattle.kinds.specs.Kinds.{Kind, Of, Lawful, Gives}
-use Rattle.transform.proofs.Ranges.{UpTo, up_to_bound, up_to_minus, up_to_more}
+use Rattle.transform.proofs.Ranges.{up_to_bound, up_to_minus, up_to_more}
 
 pub amount_given : {V : Type 0} (K : Kind) → Lawful K → (columns : V → Of K) (x y : Of K) (r : Option V) →
     within K.arity K.bound x ≡ true → within K.arity K.bound y ≡ true → Gives K columns (minus K.arity x y) r → is_some r ≡ true

@@ -1,11 +1,10 @@
 -- A trace laid out day by day.
-use Rattle.std.proofs.Common.{◌≡◌, ℕ, zero, suc, ◌+◌, ◌-◌, ◌<◌, ◌≤◌, ◌⊎◌, sym, refl, ap, ◌∙◌, inl, inr, arith}
-use Rattle.std.proofs.lemmas.Bool.{cases_lt, cases_eq}
+use Rattle.std.proofs.Common.{◌≡◌, ℕ, suc, ◌<◌, ◌≤◌, sym, refl, ap, ◌∙◌, inl, inr, arith}
+use Rattle.std.proofs.lemmas.Bool.{cases_lt}
 use Rattle.kinds.specs.Kinds.{Kind, Of, Lawful}
 use Rattle.transform.specs.Windows.{Trace}
-use Rattle.transform.specs.Theory.{turned, Bump}
 use Rattle.transform.proofs.Order.{not_itself}
-use Rattle.splitting.specs.Work.{View, put, with_run, with_mark}
+use Rattle.splitting.specs.Work.{View, with_run, with_mark}
 use Rattle.splitting.specs.Runs.{Run, Knows, Laid, Marks, Turn}
 use Rattle.splitting.proofs.Views.{put_same, put_other}
 use Rattle.splitting.proofs.Runs.{knows_more}

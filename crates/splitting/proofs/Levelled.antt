@@ -1,9 +1,8 @@
 -- A bump levelled to the higher of its neighbours: the new run, and which bumps and pits are left.
-use Rattle.std.proofs.Common.{◌≡◌, ℕ, zero, suc, ◌+◌, ◌-◌, ◌<◌, ◌≤◌, true, false, ◌⊎◌, sym, refl, ap, ◌∙◌, inl, inr, arith}
+use Rattle.std.proofs.Common.{◌≡◌, ℕ, suc, ◌+◌, ◌-◌, ◌<◌, ◌≤◌, ◌⊎◌, sym, ap, ◌∙◌, inl, inr, arith}
 use Rattle.std.proofs.lemmas.Bool.{cases_lt}
 use Rattle.kinds.specs.Kinds.{Kind, Of, Lawful}
 use Rattle.transform.specs.Windows.{Trace, higher}
-use Rattle.transform.specs.Theory.{turned, Bump}
 use Rattle.transform.proofs.Order.{Below, AtMost, not_below, higher_left, higher_right}
 use Rattle.splitting.specs.Runs.{Run, Turn}
 

@@ -1,21 +1,21 @@
 -- One mark in a pass: from one mid-pass state to the next.
-use Rattle.std.proofs.Common.{◌≡◌, ℕ, zero, suc, ◌+◌, ◌-◌, ◌<◌, ◌≤◌, true, false, ◌⊎◌, List, [], ◌∷◌, ◌++◌, sym, refl, ap, ◌∙◌, subst, inl, inr, arith}
+use Rattle.std.proofs.Common.{◌≡◌, ℕ, zero, suc, ◌+◌, ◌-◌, ◌<◌, ◌≤◌, ◌⊎◌, List, [], ◌++◌, sym, refl, ap, ◌∙◌, inl, inr, arith}
 use Rattle.std.proofs.lemmas.List.{append-nil}
-use Rattle.std.proofs.lemmas.Bool.{cases_lt, cases_eq, cond-true, cond-false}
+use Rattle.std.proofs.lemmas.Bool.{cases_lt, cases_eq}
 use Rattle.kinds.specs.Kinds.{Kind, Of, Lawful}
 use Rattle.transform.specs.Windows.{Trace, L, higher}
 use Rattle.transform.specs.Pulses.{in_turn}
-use Rattle.transform.specs.Theory.{turned, Bump}
-use Rattle.transform.proofs.Order.{Below, AtMost, turned_lawful, not_below}
+use Rattle.transform.specs.Theory.{Bump}
+use Rattle.transform.proofs.Order.{Below, turned_lawful, not_below}
 use Rattle.transform.proofs.Windows.{Apart, kept_or_bump, L_levels}
 use Rattle.transform.proofs.Smooths.{Outside}
 use Rattle.transform.proofs.Passes.{Clear}
 use Rattle.splitting.specs.Work.{View, put, with_mark, with_run}
 use Rattle.splitting.specs.Runs.{Run, Knows, Turn, Marks}
-use Rattle.splitting.specs.Passes.{spliced, Midway, Marked}
+use Rattle.splitting.specs.Passes.{spliced, Midway}
 use Rattle.splitting.proofs.Views.{put_same, put_other}
 use Rattle.splitting.proofs.Runs.{run_same, run_from, run_to, knows_again}
-use Rattle.splitting.proofs.Levelled.{left_order, right_order, one_total, begun, ended, new_run, turn_before, turn_after}
+use Rattle.splitting.proofs.Levelled.{one_total, begun, ended, new_run, turn_before, turn_after}
 use Rattle.splitting.proofs.Splices.{spliced_upto, spliced_past, spliced_outside, turn_within, turn_run, bump_seen, bump_there, bump_there_same, clear_end, kept_days, spliced_same}
 
 -- what is known beside a run

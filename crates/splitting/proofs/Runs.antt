@@ -1,10 +1,10 @@
 -- Runs of a trace, and what a work list knows of them.
-use Rattle.std.proofs.Common.{◌≡◌, ℕ, zero, suc, ◌+◌, ◌-◌, ◌<◌, ◌≤◌, ◌⊎◌, sym, refl, ap, ◌∙◌, subst, inl, inr, arith}
+use Rattle.std.proofs.Common.{◌≡◌, ℕ, zero, suc, ◌+◌, ◌-◌, ◌<◌, ◌≤◌, ◌⊎◌, sym, refl, ap, ◌∙◌, inl, inr, arith}
 use Rattle.std.proofs.lemmas.Bool.{cases_lt, cases_eq, cases_order, cases_Bool}
 use Rattle.kinds.specs.Kinds.{Kind, Of, Lawful}
 use Rattle.transform.specs.Windows.{Trace}
 use Rattle.transform.proofs.Order.{not_itself}
-use Rattle.splitting.specs.Work.{View, put, with_run}
+use Rattle.splitting.specs.Work.{View, with_run}
 use Rattle.splitting.specs.Runs.{Run, Shows, Knows}
 use Rattle.splitting.proofs.Views.{put_same, put_other}
 

@@ -1,5 +1,5 @@
 -- A record split width by width.
-use Rattle.std.proofs.Common.{◌≡◌, ℕ, zero, suc, ◌+◌, ◌-◌, ◌<◌, ◌≤◌, Bool, true, false, ◌⊎◌, List, [], ◌∷◌, ◌++◌, length, set, None, Option, sym, refl, ap, ◌∙◌, inl, inr, arith}
+use Rattle.std.proofs.Common.{◌≡◌, ℕ, suc, ◌+◌, ◌-◌, ◌<◌, ◌≤◌, true, false, List, [], ◌∷◌, ◌++◌, length, None, Option, sym, refl, ap, ◌∙◌, inl, inr, arith}
 use lib.Dec.{leb-zero}
 use Rattle.std.proofs.lemmas.List.{append_assoc, length-append, length_push, set_at}
 use Rattle.std.proofs.lemmas.Bool.{cases_lt, and_from}
@@ -8,7 +8,7 @@ use Rattle.kinds.specs.Kinds.{Kind, Of, Lawful}
 use Rattle.shelves.specs.Slots.{Entry}
 use Rattle.transform.specs.Windows.{Record, Trace, trace, lowered, smooth}
 use Rattle.transform.specs.Pulses.{Pulse, in_turn, upward, downward, pulses}
-use Rattle.transform.specs.Theory.{turned, Bump}
+use Rattle.transform.specs.Theory.{turned}
 use Rattle.transform.proofs.Order.{turned_lawful}
 use Rattle.transform.proofs.Smooths.{trace_outside, apart_flat, length_smooth, length_lowered, smooth_outside}
 use Rattle.transform.proofs.Runs.{apart_bumps}
@@ -18,7 +18,7 @@ use Rattle.transform.proofs.Counts.{pulses_few}
 use Rattle.splitting.specs.Records.{BarredDay, row_of, laid}
 use Rattle.splitting.specs.Work.{View}
 use Rattle.splitting.specs.Runs.{Knows, Turn, Marks}
-use Rattle.splitting.specs.Passes.{aimed, Stage, Ready, Swept, put_rows}
+use Rattle.splitting.specs.Passes.{Ready, Swept, put_rows}
 use Rattle.splitting.proofs.Splices.{turn_within}
 use Rattle.splitting.proofs.Sweeps.{put_rows_append}
 

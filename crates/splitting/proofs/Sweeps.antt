@@ -1,10 +1,10 @@
 -- A whole pass: its start, its end, and the rows that it puts.
-use Rattle.std.proofs.Common.{◌≡◌, ℕ, zero, suc, ◌+◌, ◌-◌, ◌<◌, ◌≤◌, Bool, ◌⊎◌, List, [], ◌∷◌, ◌++◌, length, set, Option, sym, refl, ap, ◌∙◌, inl, inr, arith}
+use Rattle.std.proofs.Common.{◌≡◌, ℕ, suc, ◌+◌, ◌≤◌, Bool, List, [], ◌∷◌, ◌++◌, length, set, Option, sym, refl, ap, ◌∙◌, inl, inr, arith}
 use Rattle.std.proofs.lemmas.List.{append-nil, append_assoc, length-append}
 use Rattle.std.proofs.lemmas.Bool.{cases_lt}
 use Rattle.kinds.specs.Kinds.{Kind, Of, Lawful}
 use Rattle.shelves.specs.Slots.{Entry}
-use Rattle.transform.specs.Windows.{Record, Trace, trace, L}
+use Rattle.transform.specs.Windows.{Record, trace, L}
 use Rattle.transform.specs.Pulses.{Pulse, in_turn, change, changes}
 use Rattle.transform.specs.Theory.{Bump}
 use Rattle.transform.proofs.Smooths.{Outside}

@@ -1,12 +1,12 @@
 -- What one write does to a work list's view.
-use Rattle.std.proofs.Common.{◌≡◌, ℕ, ◌<◌, List, map, length, get_or, set, sym, refl, ap, ◌∙◌, inl, inr, arith}
+use Rattle.std.proofs.Common.{◌≡◌, ℕ, ◌<◌, List, map, length, get_or, set, sym, refl, ap, ◌∙◌, inl, inr}
 use mathlib.Core.Path.{fun_ext}
 use Rattle.std.proofs.lemmas.List.{get_or-map, map-set, length-map, get_or-set_same, get_or-set_other}
 use Rattle.std.proofs.lemmas.Bool.{cases_eq, eq-eqb, ne_eqb, cond-true, cond-false}
 use Rattle.kinds.specs.Columns.{nought}
 use Rattle.kinds.specs.Kinds.{Kind, Of}
 use Rattle.splitting.specs.declared.work.WorkEntry.{WorkEntry}
-use Rattle.splitting.specs.Work.{View, view, put, with_end, with_mark}
+use Rattle.splitting.specs.Work.{view, put, with_end, with_mark}
 
 pub put_same : {X : Type 0} (f : ℕ → X) (k : ℕ) (v : X) (d : ℕ) → d ≡ k → put f k v d ≡ v
 unfolding put

@@ -1,23 +1,23 @@
 -- What a visit of a mark leaves.
-use Rattle.std.proofs.Common.{◌≡◌, ℕ, zero, suc, ◌+◌, ◌-◌, ◌<◌, ◌≤◌, Bool, true, false, ◌⊎◌, List, [], ◌∷◌, ◌++◌, length, sym, refl, ap, ◌∙◌, subst, inl, inr, arith}
-use Rattle.std.proofs.lemmas.Bool.{cases_lt, cases_eq}
-use Rattle.kinds.specs.Columns.{within, minus}
+use Rattle.std.proofs.Common.{◌≡◌, ℕ, suc, ◌+◌, ◌-◌, ◌<◌, ◌≤◌, Bool, true, ◌⊎◌, [], ◌∷◌, ◌++◌, length, sym, refl, ap, ◌∙◌, inl, inr, arith}
+use Rattle.std.proofs.lemmas.Bool.{cases_lt}
+use Rattle.kinds.specs.Columns.{within}
 use Rattle.kinds.specs.Kinds.{Kind, Of, Lawful}
-use Rattle.transform.specs.Windows.{Record, Trace, trace, L, higher}
-use Rattle.transform.specs.Pulses.{Pulse, in_turn, change}
+use Rattle.transform.specs.Windows.{Record, Trace, trace, higher}
+use Rattle.transform.specs.Pulses.{in_turn, change}
 use Rattle.transform.specs.Theory.{turned, Bump}
 use Rattle.transform.proofs.Order.{Below, turned_lawful}
 use Rattle.transform.proofs.Smooths.{Outside, trace_outside}
 use Rattle.transform.proofs.Listing.{Pass, lowering, change_is}
 use Rattle.transform.proofs.Endings.{L_among}
 use Rattle.splitting.specs.declared.levelling.Fate.TheVariants.{Levelled, Kept, Dropped}
-use Rattle.splitting.specs.Work.{View, with_mark, with_run}
-use Rattle.splitting.specs.Runs.{Run, Knows, Turn, Marks}
-use Rattle.splitting.specs.Passes.{aimed, spliced, Stage, Midway, Visiting, FateOf, nearest, Joins, Relaid, Marked, bump_pulse}
+use Rattle.splitting.specs.Work.{View, with_mark}
+use Rattle.splitting.specs.Runs.{Run, Turn}
+use Rattle.splitting.specs.Passes.{aimed, spliced, Stage, Midway, Visiting, FateOf, nearest, Relaid, Marked, bump_pulse}
 use Rattle.splitting.proofs.Aims.{aimed_lawful}
 use Rattle.splitting.proofs.Runs.{run_same, same_or_not}
 use Rattle.splitting.proofs.Splices.{spliced_upto, spliced_past, spliced_outside, turn_within, turn_run, bump_there_same}
-use Rattle.splitting.proofs.Passes.{known_left, known_right, run_bump, in_turn_none, in_turn_one, marked_run, run_dropped, run_kept, no_bump, the_bump, last_day, none_before, none_after, levelled_same, levelled_marked}
+use Rattle.splitting.proofs.Passes.{known_left, known_right, run_bump, in_turn_none, in_turn_one, marked_run, run_dropped, run_kept, no_bump, the_bump, none_before, none_after, levelled_same, levelled_marked}
 
 pub stage_outside : (K : Kind) (down : Bool) (days : ℕ) (b : Record K) → length b ≡ days → Outside (aimed K down) days (trace K b)
 stage_outside K down days b q = rw q at (trace_outside K b)

@@ -1,16 +1,16 @@
 -- A pass: what levels the bumps of one width, or by the turned order the pits.
-use Rattle.std.specs.Prelude.{◌≡◌, ℕ, suc, ◌+◌, ◌-◌, ◌<◌, ◌≤◌, Bool, true, false, cond, ◌⊎◌, List, [], ◌∷◌, ◌++◌, length, Option, ◌≢◌, nat_le, slice_set}
+use Rattle.std.specs.Prelude.{◌≡◌, ℕ, suc, ◌+◌, ◌-◌, ◌<◌, ◌≤◌, Bool, true, cond, ◌⊎◌, List, [], ◌∷◌, ◌++◌, length, Option, ◌≢◌, nat_le, slice_set}
 use Rattle.kinds.specs.Columns.{within, minus}
 use Rattle.kinds.specs.Kinds.{Kind, Of}
 use Rattle.shelves.specs.Slots.{Entry}
 use Rattle.transform.specs.Windows.{Record, Trace, trace, L}
-use Rattle.transform.specs.Pulses.{Pulse, in_turn, change, changes}
+use Rattle.transform.specs.Pulses.{Pulse, in_turn, changes}
 use Rattle.transform.specs.Theory.{Bump}
 use Rattle.splitting.specs.declared.levelling.Fate.{Fate}
 use Rattle.splitting.specs.declared.levelling.Fate.TheVariants.{Levelled, Kept, Dropped}
 use Rattle.splitting.specs.Records.{row_of}
 use Rattle.splitting.specs.Work.{View, with_mark, with_run}
-use Rattle.splitting.specs.Runs.{Run, Knows, Marks}
+use Rattle.splitting.specs.Runs.{Knows, Marks}
 
 -- the kind by whose order a pass levels bumps: turned in a pass that levels pits
 abbrev pub aimed : Kind → Bool → Kind

@@ -1,6 +1,6 @@
 -- Runs of a trace, and what a work list knows of them.
-use Rattle.std.specs.Prelude.{◌≡◌, ℕ, suc, ◌+◌, ◌-◌, ◌<◌, ◌≤◌, ◌⊎◌, ◌≢◌}
-use Rattle.kinds.specs.Kinds.{Kind, Of}
+use Rattle.std.specs.Prelude.{◌≡◌, ℕ, suc, ◌-◌, ◌<◌, ◌≤◌, ◌⊎◌, ◌≢◌}
+use Rattle.kinds.specs.Kinds.{Kind}
 use Rattle.transform.specs.Windows.{Trace}
 use Rattle.transform.specs.Theory.{turned, Bump}
 use Rattle.splitting.specs.Work.{View}

@@ -1,5 +1,5 @@
 -- Records worked through: one list, and what it is for all of it to be right.
-use Rattle.std.specs.Prelude.{◌≡◌, ℕ, not, List, [], ◌∷◌, length, ℤ, pos, negsuc, ◌==◌}
+use Rattle.std.specs.Prelude.{◌≡◌, ℕ, not, List, [], ◌∷◌, length, pos, negsuc, ◌==◌}
 use Rattle.kinds.specs.Kinds.{Kind, Of}
 use Rattle.kinds.specs.Wholes.{paper, mobile}
 use Rattle.transform.specs.Windows.{Record, Trace, days}

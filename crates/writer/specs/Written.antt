@@ -1,5 +1,5 @@
 -- What is written into a buffer.
-use Rattle.std.specs.Prelude.{◌≡◌, ℕ, ◌+◌, ◌<◌, ◌≤◌, List, [], ◌∷◌, ◌++◌, length, take, drop, Some, None, Ok, Err, Option, Result}
+use Rattle.std.specs.Prelude.{◌≡◌, ℕ, ◌+◌, ◌<◌, ◌≤◌, List, ◌++◌, length, take, drop, Some, None, Ok, Err, Option, Result}
 
 -- the buffer with these bytes in it from place `at` on, and the others as they were
 abbrev pub pasted : ℕ → List ℕ → List ℕ → List ℕ

@@ -1,5 +1,5 @@
 -- A record that is written reads back the same.
-use Rattle.std.proofs.Common.{◌≡◌, ℕ, ◌≤◌, ltb, List, length, Some, None, Ok, Err, Option, Result, sym, refl, ap, ◌∙◌}
+use Rattle.std.proofs.Common.{◌≡◌, ℕ, ◌≤◌, ltb, List, length, Some, None, Ok, Option, Result, sym, refl, ap, ◌∙◌}
 use Rattle.std.proofs.lemmas.Bool.{ltb-false}
 use Rattle.kinds.specs.Kinds.{Kind, Of, Lawful}
 use Rattle.refusals.specs.declared.refusal.Refusal.{Refusal}

@@ -1,24 +1,21 @@
 -- The names line and the line of a day, read back.
-use Rattle.std.proofs.Common.{◌≡◌, ℕ, suc, ◌+◌, ◌-◌, ◌*◌, ◌^◌, ◌<◌, ◌≤◌, Bool, true, false, cond, not, ◌&&◌, eqb, ltb, leb, ◌⊎◌, List, [], ◌∷◌, ◌++◌, map, length, ℤ, pos, negsuc, nat_abs, Some, None, Ok, Err, decimal, Option, Result, sym, refl, ap, ◌∙◌, subst, inl, inr, arith}
-use lib.Signed.{mag}
-use Rattle.std.proofs.lemmas.Fmt.{digits_decimal, length-decimal-le, length_signed_le}
-use Rattle.std.proofs.lemmas.Bool.{and_parts, and_from, not_from_false, ne_eqb, eq-eqb, le-ltb, le-leb, leb-true, ltb-true, true≢false}
+use Rattle.std.proofs.Common.{◌≡◌, ℕ, suc, ◌^◌, ◌<◌, true, false, eqb, leb, List, [], ◌∷◌, map, length, ℤ, pos, negsuc, nat_abs, None, decimal, refl, ap, arith}
+use Rattle.std.proofs.lemmas.Fmt.{digits_decimal}
+use Rattle.std.proofs.lemmas.Bool.{and_parts, and_from, not_from_false, ne_eqb, leb-true, true≢false}
 use Rattle.std.specs.Fmt.{signed_decimal}
-use Rattle.kinds.specs.Columns.{Arity, one, two, Each, All, Columns, times, within, fits64, replaced}
-use Rattle.kinds.specs.Kinds.{Name, cents, pieces, code, Kind, Of, Lawful}
+use Rattle.kinds.specs.Columns.{Arity, one, two, Each, All, Columns}
+use Rattle.kinds.specs.Kinds.{Name, cents, pieces, code}
 use Rattle.figures.specs.declared.heading.Heading.{Heading}
 use Rattle.figures.specs.declared.heading.Heading.TheVariants.{Day, Cents, Pieces, Pulse, Width, First, State, Refusal, Line, Byte}
 use Rattle.writer.specs.declared.value.Value.{Value}
 use Rattle.writer.specs.declared.value.Value.TheVariants.{Count, Amount}
 use Rattle.figures.specs.Bytes.{is_digit}
-use Rattle.refusals.specs.Faults.{Finding}
 use Rattle.figures.specs.Figures.{digits, figure}
-use Rattle.figures.specs.Headings.{letters, first, second, heading, heading_if, if_any, twins, column_headings}
-use Rattle.reading.specs.Traces.{bad_name, all_among, malformed, number_or_0, number_under, is_day, columns_under, check_line, read_line, entered, refuse}
-use Rattle.writer.specs.Values.{shown, written, line}
+use Rattle.figures.specs.Headings.{letters, first, second, if_any, twins, column_headings}
+use Rattle.reading.specs.Traces.{bad_name, all_among, malformed, number_or_0, number_under, columns_under}
+use Rattle.writer.specs.Values.{shown}
 use Rattle.writing.proofs.BackFacts.{absent, Clean}
 use Rattle.figures.proofs.FigureLaws.{own, figure_signed}
-use Rattle.writer.proofs.LineFacts.{written_length}
 
 -- neither a comma nor a line feed is a digit
 pub absent_digits : (c : ℕ) (bs : List ℕ) → c < 48 → digits bs ≡ true → absent c bs ≡ true

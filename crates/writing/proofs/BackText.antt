@@ -1,12 +1,12 @@
 -- A written record, read back.
-use Rattle.std.proofs.Common.{◌≡◌, ℕ, suc, ◌+◌, ◌-◌, ◌*◌, ◌^◌, ◌<◌, ◌≤◌, Bool, true, false, cond, not, ◌&&◌, eqb, ltb, leb, List, [], ◌∷◌, ◌++◌, map, length, take, drop, ℤ, pos, negsuc, nat_abs, Some, None, Ok, Err, decimal, Option, Result, sym, refl, ap, ◌∙◌, subst, arith}
+use Rattle.std.proofs.Common.{◌≡◌, ℕ, ◌+◌, ◌*◌, ◌^◌, ◌<◌, ◌≤◌, Bool, true, false, cond, ltb, leb, List, [], ◌∷◌, ◌++◌, map, length, take, drop, ℤ, pos, negsuc, nat_abs, Some, None, Ok, Result, sym, refl, ap, ◌∙◌, arith}
 use lib.Signed.{mag}
 use Rattle.std.proofs.lemmas.Fmt.{length-decimal-le, length_signed_le}
 use Rattle.std.proofs.lemmas.List.{length-append, take_at}
-use Rattle.std.proofs.lemmas.Bool.{and_parts, and_from, eq-eqb, le-ltb, le-leb, leb-true, ltb-true, ltb-false, true≢false}
+use Rattle.std.proofs.lemmas.Bool.{and_parts, and_from, eq-eqb, le-ltb, le-leb, leb-true, ltb-true, ltb-false}
 use Rattle.std.specs.Fmt.{signed_decimal}
-use Rattle.kinds.specs.Columns.{Arity, one, two, Each, All, Columns, times, within, fits64, replaced}
-use Rattle.kinds.specs.Kinds.{Name, cents, pieces, code, Kind, Of, Lawful}
+use Rattle.kinds.specs.Columns.{Arity, one, two, Each, All, Columns, times, within, fits64}
+use Rattle.kinds.specs.Kinds.{Name, cents, pieces, Kind, Of, Lawful}
 use Rattle.figures.specs.declared.heading.Heading.{Heading}
 use Rattle.figures.specs.declared.heading.Heading.TheVariants.{Day}
 use Rattle.writer.specs.declared.value.Value.TheVariants.{Count, Amount}
@@ -15,10 +15,10 @@ use Rattle.figures.specs.Headings.{letters, twins, column_headings}
 use Rattle.reading.specs.Parts.{lines, fields}
 use Rattle.writing.specs.Texts as Texts
 use Rattle.writing.specs.Texts.{trace_headings, trace_values, trace_lines, trace_text, not_entered}
-use Rattle.reading.specs.Traces.{bad_name, all_among, trace_names, none, push, malformed, number_under, is_day, columns_under, check_line, read_line, read_lines, check_names, read_all, read_text, within_room, entered, refuse, then}
-use Rattle.writer.specs.Values.{shown, written, line}
+use Rattle.reading.specs.Traces.{bad_name, all_among, trace_names, none, malformed, number_under, columns_under, check_line, read_line, read_lines, read_all, read_text, entered, refuse, then}
+use Rattle.writer.specs.Values.{shown, line}
 use Rattle.writer.specs.Written.{Writes}
-use Rattle.writing.proofs.BackFacts.{Clean, body, body_fields, line_first}
+use Rattle.writing.proofs.BackFacts.{body, body_fields, line_first}
 use Rattle.writing.proofs.BackLines.{clean_headings, names_of, day_values, texts_of, Small, clean_values, names_known, as_many, all_figures, day_back, columns_back}
 use Rattle.writer.proofs.LineFacts.{written_length}
 use Rattle.reading.proofs.LinesFacts.{some_not_none}

@@ -1,4 +1,4 @@
-use Rattle.std.proofs.Common.{sym, ap, ◌∙◌, arith}
+use Rattle.std.proofs.Common.{ap, ◌∙◌, arith}
 use Rattle.kinds.specs.Kinds.{code_of}
 use Rattle.figures.proofs.HeadingFacts.{column_first, cents_from_code, pieces_from_code}
 use Rattle.figures.proofs.heading.first_column.Goals as goal

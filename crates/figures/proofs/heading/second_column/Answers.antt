@@ -1,4 +1,4 @@
-use Rattle.std.proofs.Common.{sym, ap, ◌∙◌, arith}
+use Rattle.std.proofs.Common.{ap, ◌∙◌, arith}
 use Rattle.kinds.specs.Kinds.{code_of}
 use Rattle.figures.proofs.HeadingFacts.{column_second, none_from_code_if, cents_from_code_if, pieces_from_code_if}
 use Rattle.figures.proofs.heading.second_column.Goals as goal

@@ -1,4 +1,4 @@
-use Rattle.std.proofs.Common.{◌≡◌, map, length, sym, ap, subst}
+use Rattle.std.proofs.Common.{map, length, sym, ap, subst}
 use Rattle.shelves.specs.declared.row.Mark.TheVariants.{In, Out}
 use Rattle.sheets.specs.Takes.{state_of}
 use Rattle.histories.specs.Steps.{call_of, GoesOn}

@@ -1,4 +1,4 @@
-use Rattle.std.proofs.Common.{map, length, sym, refl, ap, subst, arith}
+use Rattle.std.proofs.Common.{map, length, refl, subst}
 use Rattle.std.proofs.lemmas.List.{take_all}
 use Rattle.sheets.specs.Takes.{state_of}
 use Rattle.sheets.specs.Promise.{Promise}

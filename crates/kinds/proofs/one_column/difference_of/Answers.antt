@@ -1,6 +1,3 @@
-use Rattle.std.proofs.Common.{ap, ◌∙◌}
-use Rattle.kinds.specs.Kinds.{code_of}
-use Rattle.kinds.specs.Pairs.{only}
 use Rattle.kinds.specs.Singles.{gives_number, only_minus}
 use Rattle.kinds.proofs.one_column.difference_of.Goals as goal
 

@@ -1,6 +1,5 @@
 use Rattle.std.proofs.Common.{ap, ◌∙◌}
 use Rattle.kinds.specs.Kinds.{code_of}
-use Rattle.kinds.specs.Pairs.{only}
 use Rattle.kinds.specs.Singles.{only_column}
 use Rattle.kinds.proofs.one_column.name_of.Goals as goal
 

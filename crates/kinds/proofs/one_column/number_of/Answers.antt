@@ -1,6 +1,4 @@
-use Rattle.std.proofs.Common.{ap, ◌∙◌}
-use Rattle.kinds.specs.Kinds.{code_of}
-use Rattle.kinds.specs.Pairs.{only}
+use Rattle.std.proofs.Common.{◌∙◌}
 use Rattle.kinds.specs.Singles.{only_column}
 use Rattle.kinds.proofs.one_column.number_of.Goals as goal
 

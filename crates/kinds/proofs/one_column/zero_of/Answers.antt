@@ -1,5 +1,4 @@
 use Rattle.std.proofs.Common.{ap, ◌∙◌}
-use Rattle.kinds.specs.Kinds.{code_of}
 use Rattle.kinds.specs.Pairs.{only}
 use Rattle.kinds.specs.Singles.{only_nought}
 use Rattle.kinds.proofs.one_column.zero_of.Goals as goal

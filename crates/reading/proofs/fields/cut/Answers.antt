@@ -1,4 +1,4 @@
-use Rattle.std.proofs.Common.{arith, rules}
+use Rattle.std.proofs.Common.{arith}
 use Rattle.reading.proofs.PartFacts.{cut_found, cut_whole}
 use Rattle.std.proofs.lemmas.List.{take_rest}
 use native.Mathlib.Nat.{sub-zero}

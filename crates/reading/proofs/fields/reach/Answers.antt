@@ -1,4 +1,4 @@
-use Rattle.std.proofs.Common.{arith, rules}
+use Rattle.std.proofs.Common.{arith}
 use Rattle.reading.proofs.PartFacts.{reach_stop, reach_pass, reach_end}
 use Rattle.reading.proofs.fields.reach.Goals as goal
 

@@ -1,4 +1,4 @@
-use Rattle.std.proofs.Common.{◌≡◌, Some, None, sym, ◌∙◌, arith, w64, to_z, of_z}
+use Rattle.std.proofs.Common.{Some, None, ◌∙◌, arith, w64}
 use Rattle.std.proofs.lemmas.Int.{to_z-of_z}
 use Rattle.reading.proofs.TraceFacts.{first_put, second_put, none_put, filled_first}
 use Rattle.reading.proofs.line.total_of.Goals as goal

@@ -1,6 +1,5 @@
-use Rattle.std.proofs.Common.{◌≡◌, ◌≤◌, List, length, sym, refl, ap, ◌∙◌, arith}
+use Rattle.std.proofs.Common.{length, refl, ap, ◌∙◌, arith}
 use Rattle.std.proofs.lemmas.Result.{err_from_is_err_and}
-use Rattle.kinds.specs.Kinds.{Of}
 use Rattle.refusals.specs.Faults.{line_found}
 use Rattle.reading.specs.Traces.{within_room}
 use Rattle.reading.proofs.LinesFacts.{counted_err, counted_long, read_good}

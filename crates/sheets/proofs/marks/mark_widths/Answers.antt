@@ -1,7 +1,7 @@
-use Rattle.std.proofs.Common.{◌+◌, ◌≤◌, refl, ◌∙◌, arith, rules}
+use Rattle.std.proofs.Common.{refl, ◌∙◌, arith}
 use Rattle.sheets.specs.Calls.{marking}
 use Rattle.sheets.specs.Marks.{marks_changed}
-use Rattle.sheets.proofs.Slots.{marked_none, marked_more, marked_blank}
+use Rattle.sheets.proofs.Slots.{marked_none, marked_more}
 use Rattle.sheets.proofs.marks.mark_widths.Goals as goal
 
 pub loop-slot-init : goal.loop-slot-init

@@ -1,4 +1,4 @@
-use Rattle.std.proofs.Common.{◌≡◌, ◌+◌, true, false, ◌&&◌, ltb, leb, ◌⊎◌, sym, ap, ◌∙◌, inl, inr}
+use Rattle.std.proofs.Common.{◌≡◌, ◌+◌, false, ◌&&◌, ltb, leb, ◌⊎◌, sym, ap, ◌∙◌, inl, inr}
 use Rattle.kinds.specs.Columns.{plus}
 use Rattle.transform.proofs.Group.{plus_nought}
 use Rattle.sheets.proofs.Adding.{row_adds, row_adds_none, comes_same}

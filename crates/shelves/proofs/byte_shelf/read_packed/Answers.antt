@@ -1,5 +1,5 @@
-use Rattle.std.proofs.Common.{◌≡◌, ◌+◌, ◌-◌, ◌*◌, ◌/◌, ◌<◌, ◌≤◌, length, take, drop, sym, ap, ◌∙◌, arith}
-use Rattle.shelves.specs.Bytes.{part, size, slot_bytes, unpacked, whole}
+use Rattle.std.proofs.Common.{◌≡◌, ◌+◌, ◌-◌, ◌*◌, ◌/◌, ◌<◌, length, take, drop, sym, ap, ◌∙◌, arith}
+use Rattle.shelves.specs.Bytes.{size, slot_bytes, unpacked, whole}
 use Rattle.shelves.proofs.Shown.{getD_shown, holds_at, length_shown}
 use Rattle.shelves.proofs.byte_shelf.read_packed.Goals as goal
 

@@ -1,4 +1,4 @@
-use Rattle.std.proofs.Common.{◌≡◌, ◌∙◌, w64}
+use Rattle.std.proofs.Common.{◌∙◌, w64}
 use Rattle.std.proofs.lemmas.Int.{to_z-of_z}
 use Rattle.shelves.proofs.Amounts.{none_first, some_alone, with_second}
 use Rattle.shelves.proofs.packing.amount_in.Goals as goal

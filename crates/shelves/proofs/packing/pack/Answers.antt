@@ -1,7 +1,7 @@
 use Rattle.std.proofs.Common.{◌≡◌, ◌-◌, ◌≤◌, ◌++◌, length, ap, ◌∙◌, arith}
 use borrow.Rule.Slice.PartMut.{post_of}
 use Rattle.std.proofs.lemmas.List.{length-append}
-use Rattle.shelves.specs.Bytes.{packed, packed_head, packed_columns}
+use Rattle.shelves.specs.Bytes.{packed, packed_head}
 use Rattle.shelves.proofs.Fills.{rest_filled}
 use Rattle.shelves.proofs.Packs.{unpacked_packed}
 use Rattle.shelves.proofs.packing.pack.Goals as goal

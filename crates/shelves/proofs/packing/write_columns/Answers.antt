@@ -1,4 +1,4 @@
-use Rattle.std.proofs.Common.{◌≡◌, ap, ◌∙◌, w64}
+use Rattle.std.proofs.Common.{ap, ◌∙◌, w64}
 use Rattle.std.proofs.lemmas.Int.{to_z-of_z}
 use Rattle.shelves.specs.Bytes.{bytes_of_signed}
 use Rattle.shelves.proofs.Fills.{one_column, two_columns}

@@ -1,6 +1,6 @@
 use Rattle.std.proofs.Common.{refl, arith, rules}
 use Rattle.std.proofs.lemmas.List.{length-map, map-set, set_past}
-use Rattle.shelves.specs.Slots.{shown, shown_rows}
+use Rattle.shelves.specs.Slots.{shown}
 use Rattle.shelves.proofs.row_shelf.put_row.Goals as goal
 
 pub returns-then-slot-rows : goal.returns-then-slot-rows

@@ -1,7 +1,7 @@
-use Rattle.std.proofs.Common.{◌≡◌, ◌<◌, ◌≤◌, length, get_or, None, sym, refl, ap, ◌∙◌, arith}
+use Rattle.std.proofs.Common.{None, sym, ap, ◌∙◌, arith}
 use Rattle.std.proofs.lemmas.List.{length-map, get_or-map}
 use Rattle.std.proofs.lemmas.Bool.{leb-false, leb-true}
-use Rattle.shelves.specs.Slots.{shown, shown_rows}
+use Rattle.shelves.specs.Slots.{shown}
 use Rattle.shelves.proofs.Blanks.{blank_mark}
 use Rattle.shelves.proofs.row_shelf.read_row.Goals as goal
 

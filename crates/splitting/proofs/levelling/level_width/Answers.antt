@@ -1,6 +1,4 @@
-use Rattle.std.proofs.Common.{◌≡◌, suc, ◌+◌, sym, refl, ap, ◌∙◌, arith}
-use Rattle.transform.specs.Pulses.{change}
-use Rattle.splitting.specs.Work.{view}
+use Rattle.std.proofs.Common.{◌≡◌, suc, ◌+◌, sym, refl, ◌∙◌, arith}
 use Rattle.splitting.specs.Passes.{aimed}
 use Rattle.splitting.proofs.Aims.{aimed_lawful}
 use Rattle.splitting.proofs.Passes.{skipped}

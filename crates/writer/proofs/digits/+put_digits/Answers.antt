@@ -1,6 +1,6 @@
-use Rattle.std.proofs.Common.{◌≡◌, ◌+◌, ◌%◌, [], ◌∷◌, refl, ap, ◌∙◌, arith}
+use Rattle.std.proofs.Common.{◌+◌, ◌%◌, [], ◌∷◌, ap, ◌∙◌, arith}
 use Rattle.writer.specs.Written.{pasted}
-use Rattle.writer.proofs.WrittenFacts.{decimal_one, decimal_longer, decimal_few, pasted_digit, pasted_digits}
+use Rattle.writer.proofs.WrittenFacts.{decimal_one, decimal_longer, pasted_digit, pasted_digits}
 use Rattle.writer.proofs.digits.+put_digits.Goals as goal
 
 pub put_byte-requires : goal.put_byte-requires

@@ -1,4 +1,4 @@
-use Rattle.std.proofs.Common.{◌^◌, ◌<◌, arith}
+use Rattle.std.proofs.Common.{arith}
 use Rattle.writer.proofs.WrittenFacts.{decimal_one, decimal_longer, decimal_few}
 use Rattle.writer.proofs.digits.count_digits.Goals as goal
 

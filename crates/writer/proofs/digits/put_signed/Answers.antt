@@ -1,4 +1,4 @@
-use Rattle.std.proofs.Common.{◌≡◌, suc, ◌+◌, true, length, pos, nat_abs, decimal, ap, ◌∙◌, arith, w64}
+use Rattle.std.proofs.Common.{◌≡◌, suc, true, length, pos, nat_abs, decimal, ap, arith, w64}
 use lib.Signed.{lt_z}
 use Rattle.std.proofs.lemmas.Int.{to_z-of_z}
 use Rattle.std.specs.Fmt.{signed_decimal}

@@ -1,4 +1,4 @@
-use Rattle.std.proofs.Common.{◌≡◌, ◌+◌, cond, [], ◌∷◌, length, sym, ap, ◌∙◌, arith}
+use Rattle.std.proofs.Common.{◌≡◌, ◌+◌, cond, [], ◌∷◌, length, ap, ◌∙◌, arith}
 use Rattle.writer.specs.Written.{pasted}
 use Rattle.writer.proofs.WrittenFacts.{pasted_append}
 use Rattle.writer.proofs.writer.put_field.Goals as goal

@@ -1,5 +1,5 @@
-use Rattle.std.proofs.Common.{◌≡◌, ◌+◌, length, drop, sym, ap, ◌∙◌, arith}
-use Rattle.writer.specs.Values.{line, written}
+use Rattle.std.proofs.Common.{◌+◌, length, drop, sym, ap, ◌∙◌, arith}
+use Rattle.writer.specs.Values.{written}
 use Rattle.writer.specs.Written.{pasted}
 use Rattle.writer.proofs.LineFacts.{line_some, written_more_length, written_none, pasted_more, pasted_all}
 use Rattle.writer.proofs.writer.put_line.Goals as goal

@@ -1,5 +1,5 @@
-use Rattle.std.proofs.Common.{length, ap, arith, rules}
-use Rattle.writer.proofs.LineFacts.{line_some, line_none, written_more_length, written_none}
+use Rattle.std.proofs.Common.{length, ap, arith}
+use Rattle.writer.proofs.LineFacts.{line_some, written_more_length, written_none}
 use Rattle.writer.proofs.writer.room_behind.Goals as goal
 
 pub returns-then-left-width : goal.returns-then-left-width

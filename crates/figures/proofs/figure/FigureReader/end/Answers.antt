@@ -1,6 +1,5 @@
 use Rattle.std.proofs.Common.{arith, rules}
-use Rattle.std.proofs.lemmas.Int.{ints, to_z-of_z}
-use Rattle.std.proofs.lemmas.Bool.Decides.{nat_tests}
+use Rattle.std.proofs.lemmas.Int.{ints}
 use Rattle.figures.proofs.FigureFacts.{at_most_18, minus_ends, plain_ends}
 use Rattle.figures.proofs.figure.FigureReader.end.Goals as goal
 

@@ -1,6 +1,6 @@
-use Rattle.std.proofs.Common.{◌≡◌, ◌-◌, ◌≤◌, true, false, arith, rules}
+use Rattle.std.proofs.Common.{◌≡◌, ◌-◌, ◌≤◌, false, arith}
 use Rattle.std.proofs.lemmas.Bool.Decides.{nat_tests}
-use Rattle.figures.proofs.FigureFacts.{first_plain, first_signed, further, begun_sound}
+use Rattle.figures.proofs.FigureFacts.{first_plain, further, begun_sound}
 use Rattle.figures.proofs.figure.FigureReader.step.Goals as goal
 
 pub returns-in-Start-Digit : goal.returns-in-Start-Digit
