@@ -14,7 +14,7 @@ sys.path.insert(0, os.path.dirname(os.path.realpath(__file__)))
 from respell import files
 
 OWN_MEMBERS = {"kinds"}
-SHELF_CRATE = "shelves"
+SHELF_CRATES = {"shelves", "shelves_tests"}
 CLAUSE = re.compile(r"\b(?:(?:requires|ensures)\b[^{};\"]*\{|ghost \w+ = \{)")
 
 
@@ -44,11 +44,11 @@ def clauses_turned(text, shelf_members):
 def main(root):
     for path in files(root, (".rt", ".edit")):
         crate = os.path.relpath(path, root).split(os.sep)[1]
-        if crate in OWN_MEMBERS or crate.endswith("_tests"):
+        if crate in OWN_MEMBERS:
             continue
         with open(path, encoding="utf-8") as f:
             old = f.read()
-        new = clauses_turned(old, crate != SHELF_CRATE)
+        new = clauses_turned(old, crate not in SHELF_CRATES)
         if new != old:
             print(path)
             with open(path, "w", encoding="utf-8") as f:

@@ -11,7 +11,7 @@ use shelves::{ByteShelf, OverBytes, OverRows, Row, RowShelf, Shelf};
 
 // Puts a row into the first two slots, as far as there are such slots.
 fn fill<K: Total, S: Shelf<K>>(shelf: &mut S, row: &Row<K>)
-    ensures slots { S.Shelf.slots shelf.new ≡ slice_set (slice_set (S.Shelf.slots shelf.old) 0 (shown kind columns row.now)) 1 (shown kind columns row.now) }
+    ensures slots { S.Shelf.slots shelf.new ≡ slice_set (slice_set (S.Shelf.slots shelf.old) 0 (shown K.kind K.columns row.now)) 1 (shown K.kind K.columns row.now) }
     ensures outside { S.Shelf.outside shelf.new ≡ S.Shelf.outside shelf.old }
 {
     let _ = shelf.put(0, row);
@@ -19,7 +19,7 @@ fn fill<K: Total, S: Shelf<K>>(shelf: &mut S, row: &Row<K>)
 }
 
 fn fill_rows<K: Total>(rows: &mut [Row<K>], row: &Row<K>)
-    ensures { shown_rows kind columns rows.new ≡ slice_set (slice_set (shown_rows kind columns rows.old) 0 (shown kind columns row.now)) 1 (shown kind columns row.now) }
+    ensures { shown_rows K.kind K.columns rows.new ≡ slice_set (slice_set (shown_rows K.kind K.columns rows.old) 0 (shown K.kind K.columns row.now)) 1 (shown K.kind K.columns row.now) }
 {
     let mut shelf = RowShelf::over(rows);
     fill(&mut shelf, row);
