@@ -8,28 +8,29 @@ use Rattle.sheets.specs.declared.sheet.Stop.{Stop}
 use Rattle.sheets.specs.declared.sheet.Stop.TheVariants.{Refused, Unreachable}
 use Rattle.histories.specs.declared.steps.Step.{Step}
 use Rattle.sheets.specs.Takes.{State, Take}
-use Rattle.sheets.specs.Calls.{taking, marking, marking_one}
+use Rattle.sheets.specs.Calls.{Call, taking, marking, marking_one}
 use Rattle.sheets.specs.Marks.{Marking}
-use Rattle.sheets.specs.Promise.{Promise, Continues}
-use Rattle.histories.specs.Steps.{call_of, calls_of, Lead, GoesOn}
+use Rattle.sheets.specs.History.{Calls, Continues, Shows}
+use Rattle.sheets.specs.Promise.{Promise, Keeps}
+use Rattle.histories.specs.Steps.{call_of, calls_of, Leaves, Lead, GoesOn, LeavesWork, LeadWork, GoesOnWork}
 
 module _ {W : Type 0} (K : Kind) (s t : State) (w : List W) where
-  pub range_goes_on : {A : Type 0} (m : Mark) (low high : ℕ) (u v : A) (r : Result ℕ Stop) → (v ≡ u → t ≡ s) → Marking K (marking m low high) s t u v r → Continues K (marking m low high) s t r → GoesOn K (marking m low high) s t w w
-  range_goes_on m low high u v (Ok n) y (a, b, d, e) f h S = ((f h S).0, inl (a, (b, d), refl))
-  range_goes_on m low high u v (Err (Refused r)) y (g, e) f h S = ((f h S).0, inr ((r, g), y e, refl))
-  range_goes_on m low high u v (Err Unreachable) y e f h S = absurd ((f h S).1 tt)
+  pub range_goes_on : {A : Type 0} (m : Mark) (low high : ℕ) (u v : A) (r : Result ℕ Stop) → (v ≡ u → t ≡ s) → Marking K (marking m low high) s t u v r → Continues K (marking m low high) s t r → Keeps K (marking m low high) s t → GoesOnWork K (marking m low high) s t w w
+  range_goes_on m low high u v (Ok n) y (a, b, d, e) f k h S = (k h S, inl (a, (b, d), refl))
+  range_goes_on m low high u v (Err (Refused r)) y (g, e) f k h S = (k h S, inr ((r, g), y e, refl))
+  range_goes_on m low high u v (Err Unreachable) y e f k h S = absurd ((f h S).1 tt)
 
-  pub one_goes_on : {A : Type 0} (m : Mark) (n : ℕ) (u v : A) (r : Result ℕ Stop) → (v ≡ u → t ≡ s) → Marking K (marking_one m n) s t u v r → Continues K (marking_one m n) s t r → GoesOn K (marking_one m n) s t w w
-  one_goes_on m n u v (Ok x) y (a, b, d, e) f h S = ((f h S).0, inl (a, (b, d), refl))
-  one_goes_on m n u v (Err (Refused r)) y (g, e) f h S = ((f h S).0, inr ((r, g), y e, refl))
-  one_goes_on m n u v (Err Unreachable) y e f h S = absurd ((f h S).1 tt)
+  pub one_goes_on : {A : Type 0} (m : Mark) (n : ℕ) (u v : A) (r : Result ℕ Stop) → (v ≡ u → t ≡ s) → Marking K (marking_one m n) s t u v r → Continues K (marking_one m n) s t r → Keeps K (marking_one m n) s t → GoesOnWork K (marking_one m n) s t w w
+  one_goes_on m n u v (Ok x) y (a, b, d, e) f k h S = (k h S, inl (a, (b, d), refl))
+  one_goes_on m n u v (Err (Refused r)) y (g, e) f k h S = (k h S, inr ((r, g), y e, refl))
+  one_goes_on m n u v (Err Unreachable) y e f k h S = absurd ((f h S).1 tt)
 
 -- a take with a part of a work list, from the list w to the list x
 pub take_goes_on : {A W : Type 0} (K : Kind) (s t : State) (xs : Record K) (entries : ℕ) (w x : List W) (u v : A) (i o : List W) (r : Result ℕ Stop) → (v ≡ u → t ≡ s) → (o ≡ i → x ≡ w) → drop entries x ≡ drop entries w →
-    Take K xs entries s t u v i o r → Continues K (taking xs entries) s t r → GoesOn K (taking xs entries) s t w x
-take_goes_on K s t xs entries w x u v i o (Ok n) y z q (a, e, d) f h S = ((f h S).0, inl (a, d, q))
-take_goes_on K s t xs entries w x u v i o (Err (Refused r)) y z q (l, e, d) f h S = ((f h S).0, inr ((r, l.ground), y e, z d))
-take_goes_on K s t xs entries w x u v i o (Err Unreachable) y z q e f h S = absurd e
+    Take K xs entries s t u v i o r → Continues K (taking xs entries) s t r → Keeps K (taking xs entries) s t → GoesOnWork K (taking xs entries) s t w x
+take_goes_on K s t xs entries w x u v i o (Ok n) y z q (a, e, d) f k h S = (k h S, inl (a, d, q))
+take_goes_on K s t xs entries w x u v i o (Err (Refused r)) y z q (l, e, d) f k h S = (k h S, inr ((r, l.ground), y e, z d))
+take_goes_on K s t xs entries w x u v i o (Err Unreachable) y z q e f k h S = absurd e
 
 -- a part of a list
 pub take_nothing : {A : Type 0} (n : ℕ) → take {A = A} n [] ≡ []
@@ -47,10 +48,10 @@ module _ {A : Type 0} (xs : List A) (i n : ℕ) where
 
 -- a take by plain numbers is a take of that part of the totals
 pub part_goes_on : {V W : Type 0} (K : Kind) (columns : V → Of K) (s t : State) (w x : List W) (totals record' : List V) (skipped n entries room : ℕ) → record' ≡ take n (drop skipped totals) → entries ≡ room →
-    GoesOn K (taking (map columns record') entries) s t w x → GoesOn K (taking (take n (drop skipped (map columns totals))) room) s t w x
+    GoesOnWork K (taking (map columns record') entries) s t w x → GoesOnWork K (taking (take n (drop skipped (map columns totals))) room) s t w x
 part_goes_on K columns s t w x totals record' skipped n entries room e f G =
-    subst (λ xs. GoesOn K (taking xs room) s t w x) (ap (map columns) e ∙ sym (take-map columns n (drop skipped totals)) ∙ ap (take n) (sym (drop-map columns skipped totals)))
-    (subst (λ m. GoesOn K (taking (map columns record') m) s t w x) f G)
+    subst (λ xs. GoesOnWork K (taking xs room) s t w x) (ap (map columns) e ∙ sym (take-map columns n (drop skipped totals)) ∙ ap (take n) (sym (drop-map columns skipped totals)))
+    (subst (λ m. GoesOnWork K (taking (map columns record') m) s t w x) f G)
 
 -- a list of calls, one call after another
 pub calls_more : (K : Kind) (xs : Record K) (room : ℕ) (steps : List Step) (i : ℕ) (d : Step) → i < length steps → calls_of K xs room (take (i + 1) steps) ≡ call_of K xs room (get_or steps i d) ∷ calls_of K xs room (take i steps)
@@ -60,11 +61,23 @@ calls_more K xs room steps i d h =
     reverse-append (map (call_of K xs room) (take i steps)) (call_of K xs room (get_or steps i d) ∷ [])
 
 pub led_more : {W : Type 0} (K : Kind) (xs : Record K) (room have : ℕ) (steps : List Step) (i : ℕ) (d : Step) (start s t : State) (w u v : List W) → i < length steps → have ≡ room →
-    Promise K (calls_of K xs room (take i steps)) s → Lead K (calls_of K xs room (take i steps)) start s w u → GoesOn K (call_of K xs have (get_or steps i d)) s t u v →
-    Promise K (calls_of K xs room (take (i + 1) steps)) t × Lead K (calls_of K xs room (take (i + 1) steps)) start t w v
+    Promise K (calls_of K xs room (take i steps)) s → LeadWork K (calls_of K xs room (take i steps)) start s w u → GoesOnWork K (call_of K xs have (get_or steps i d)) s t u v →
+    Promise K (calls_of K xs room (take (i + 1) steps)) t × LeadWork K (calls_of K xs room (take (i + 1) steps)) start t w v
 led_more K xs room have steps i d start s t w u v h e P L G =
-    let G' : GoesOn K (call_of K xs room (get_or steps i d)) s t u v = subst (λ n. GoesOn K (call_of K xs n (get_or steps i d)) s t u v) e G in
+    let G' : GoesOnWork K (call_of K xs room (get_or steps i d)) s t u v = subst (λ n. GoesOnWork K (call_of K xs n (get_or steps i d)) s t u v) e G in
     let g = G' (calls_of K xs room (take i steps)) P.shows in (
       subst (λ c. Promise K c t) (sym (calls_more K xs room steps i d h)) g.0,
-      subst (λ c. Lead K c start t w v) (sym (calls_more K xs room steps i d h)) (s, u, L, g.1),
+      subst (λ c. LeadWork K c start t w v) (sym (calls_more K xs room steps i d h)) (s, u, L, g.1),
     )
+
+-- what is said of sheet and work list, said of the sheet alone
+leaves_sheet : {W : Type 0} (K : Kind) (c : Call K) (s t : State) (w v : List W) → LeavesWork K c s t w v → Leaves K c s t
+leaves_sheet K c s t w v (inl l) = inl (l.0, l.1)
+leaves_sheet K c s t w v (inr l) = inr (l.0, l.1)
+
+pub lead_sheet : {W : Type 0} (K : Kind) (h : Calls K) (s t : State) (w v : List W) → LeadWork K h s t w v → Lead K h s t
+lead_sheet K [] s t w v l = l.0
+lead_sheet K (c ∷ h) s t w v (m, u, l, e) = (m, lead_sheet K h s m w u l, leaves_sheet K c m t u v e)
+
+pub goes_on_sheet : {W : Type 0} (K : Kind) (c : Call K) (s t : State) (w v : List W) → GoesOnWork K c s t w v → GoesOn K c s t
+goes_on_sheet K c s t w v f h S = let g = f h S in (g.0.shows, leaves_sheet K c s t w v g.1)

@@ -30,6 +30,17 @@ Done K (taking xs entries) s t = Taken K xs s t
 Done K (marking m low high) s t = Stays s t × Marked {K = K} (marking m low high) s.count s.slots t.slots
 Done K (marking_one m n) s t = Stays s t × Marked {K = K} (marking_one m n) s.count s.slots t.slots
 
+-- what a call leaves; a refused one leaves all as it was
+abbrev pub Leaves : (K : Kind) → Call K → State → State → Type 0
+Leaves K c s t =
+    (Allowed K (length s.slots) s.count c × Done K c s t) ⊎
+    (((r : Refusal) × Grounds K (length s.slots) s.count c r) × (t ≡ s))
+
+-- the calls, one after another, lead from the sheet s to the sheet t
+abbrev pub Lead : (K : Kind) → Calls K → State → State → Type 0
+Lead K [] s t = t ≡ s
+Lead K (c ∷ h) s t = (m : State) × Lead K h s m × Leaves K c m t
+
 -- the entries of a work list that a call is lent
 abbrev pub lent : {K : Kind} → Call K → ℕ
 lent (taking xs entries) = entries
@@ -38,17 +49,21 @@ lent (marking_one m n) = 0
 
 -- What a call leaves, from the sheet s and the work list w to the sheet t and the work list v: an
 -- accepted one leaves the entries that it is not lent, a refused one leaves all as it was.
-abbrev pub Leaves : {W : Type 0} (K : Kind) → Call K → State → State → List W → List W → Type 0
-Leaves K c s t w v =
+abbrev pub LeavesWork : {W : Type 0} (K : Kind) → Call K → State → State → List W → List W → Type 0
+LeavesWork K c s t w v =
     (Allowed K (length s.slots) s.count c × Done K c s t × (drop (lent c) v ≡ drop (lent c) w)) ⊎
     (((r : Refusal) × Grounds K (length s.slots) s.count c r) × (t ≡ s) × (v ≡ w))
 
 -- the calls, one after another, lead from the sheet s and the work list w to the sheet t and the work
 -- list v
-abbrev pub Lead : {W : Type 0} (K : Kind) → Calls K → State → State → List W → List W → Type 0
-Lead K [] s t w v = (t ≡ s) × (v ≡ w)
-Lead {W = W} K (c ∷ h) s t w v = (m : State) × (u : List W) × Lead K h s m w u × Leaves K c m t u v
+abbrev pub LeadWork : {W : Type 0} (K : Kind) → Calls K → State → State → List W → List W → Type 0
+LeadWork K [] s t w v = (t ≡ s) × (v ≡ w)
+LeadWork {W = W} K (c ∷ h) s t w v = (m : State) × (u : List W) × LeadWork K h s m w u × LeavesWork K c m t u v
 
 -- what performing one more call does after a list of calls
-abbrev pub GoesOn : {W : Type 0} (K : Kind) → Call K → State → State → List W → List W → Type 0
-GoesOn K c s t w v = (h : Calls K) → Shows K h s → Promise K (c ∷ h) t × Leaves K c s t w v
+abbrev pub GoesOn : (K : Kind) → Call K → State → State → Type 0
+GoesOn K c before after = (h : Calls K) → Shows K h before → Shows K (c ∷ h) after × Leaves K c before after
+
+-- and what it leaves of a work list
+abbrev pub GoesOnWork : {W : Type 0} (K : Kind) → Call K → State → State → List W → List W → Type 0
+GoesOnWork K c s t w v = (h : Calls K) → Shows K h s → Promise K (c ∷ h) t × LeavesWork K c s t w v

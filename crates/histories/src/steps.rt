@@ -3,7 +3,7 @@ ghost use Rattle.std.specs.Prelude.{◌≡◌, min, map, length, take as front, 
 ghost use Rattle.sheets.specs.Takes.{opened, state_of};
 ghost use Rattle.sheets.specs.Calls.{taking};
 ghost use Rattle.sheets.specs.Promise.{Promise};
-ghost use Rattle.histories.specs.Steps.{call_of, calls_of, GoesOn, Lead};
+ghost use Rattle.histories.specs.Steps.{call_of, calls_of, GoesOn, GoesOnWork, Lead, LeadWork};
 
 use kinds::Total;
 use sheets::Sheet;
@@ -59,7 +59,8 @@ fn take_part<K: Total, S: Shelf<K>>(
     days: usize,
     entries: usize,
 )
-    ensures { GoesOn K.kind (taking (front days (behind skipped (map K.columns totals.now))) (min entries (length work.old))) (state_of S.slots S.outside sheet.old) (state_of S.slots S.outside sheet.new) work.old work.new }
+    ensures sheet { GoesOn K.kind (taking (front days (behind skipped (map K.columns totals.now))) (min entries (length work.old))) (state_of S.slots S.outside sheet.old) (state_of S.slots S.outside sheet.new) }
+    ensures work { GoesOnWork K.kind (taking (front days (behind skipped (map K.columns totals.now))) (min entries (length work.old))) (state_of S.slots S.outside sheet.old) (state_of S.slots S.outside sheet.new) work.old work.new }
 {
     let record = part(totals, skipped, days);
     if entries < work.len() {
@@ -76,7 +77,8 @@ fn perform<K: Total, S: Shelf<K>>(
     totals: &[K],
     work: &mut [WorkEntry<K>],
 )
-    ensures { GoesOn K.kind (call_of K.kind (map K.columns totals.now) (length work.old) step) (state_of S.slots S.outside sheet.old) (state_of S.slots S.outside sheet.new) work.old work.new }
+    ensures sheet { GoesOn K.kind (call_of K.kind (map K.columns totals.now) (length work.old) step) (state_of S.slots S.outside sheet.old) (state_of S.slots S.outside sheet.new) }
+    ensures work { GoesOnWork K.kind (call_of K.kind (map K.columns totals.now) (length work.old) step) (state_of S.slots S.outside sheet.old) (state_of S.slots S.outside sheet.new) work.old work.new }
 {
     match step {
         Step::Take {
@@ -106,7 +108,8 @@ fn performed<K: Total, S: Shelf<K>>(
     totals: &[K],
     work: &mut [WorkEntry<K>],
 ) -> Sheet<K, S>
-    ensures led { Lead K.kind (calls_of K.kind (map K.columns totals.now) (length work.old) steps.now) (opened (S.slots shelf) (S.outside shelf)) (state_of S.slots S.outside result) work.old work.new }
+    ensures led { Lead K.kind (calls_of K.kind (map K.columns totals.now) (length work.old) steps.now) (opened (S.slots shelf) (S.outside shelf)) (state_of S.slots S.outside result) }
+    ensures work { LeadWork K.kind (calls_of K.kind (map K.columns totals.now) (length work.old) steps.now) (opened (S.slots shelf) (S.outside shelf)) (state_of S.slots S.outside result) work.old work.new }
     ensures promise { Promise K.kind (calls_of K.kind (map K.columns totals.now) (length work.old) steps.now) (state_of S.slots S.outside result) }
 {
     let mut sheet = Sheet::new(shelf);
@@ -124,7 +127,8 @@ pub fn sheet_after<K: Total, S: Shelf<K>>(
     totals: &[K],
     work: &mut [WorkEntry<K>],
 ) -> Sheet<K, S>
-    ensures led { Lead K.kind (calls_of K.kind (map K.columns totals.now) (length work.old) steps.now) (opened (S.slots shelf) (S.outside shelf)) (state_of S.slots S.outside result) work.old work.new }
+    ensures led { Lead K.kind (calls_of K.kind (map K.columns totals.now) (length work.old) steps.now) (opened (S.slots shelf) (S.outside shelf)) (state_of S.slots S.outside result) }
+    ensures work { LeadWork K.kind (calls_of K.kind (map K.columns totals.now) (length work.old) steps.now) (opened (S.slots shelf) (S.outside shelf)) (state_of S.slots S.outside result) work.old work.new }
     ensures promise { Promise K.kind (calls_of K.kind (map K.columns totals.now) (length work.old) steps.now) (state_of S.slots S.outside result) }
 {
     performed(shelf, steps, totals, work)

@@ -2,7 +2,7 @@
 use Rattle.std.proofs.Common.{◌≡◌, ℕ, suc, ◌<◌, false, eqb, List, [], ◌∷◌, ◌++◌, length, sym, refl, ap, ◌∙◌, inl, inr, arith}
 use Rattle.std.proofs.lemmas.List.{append-nil, append_assoc, length-append}
 use Rattle.std.proofs.lemmas.Bool.{cases_Bool, eqb-true, ltb-false, le-ltb}
-use Rattle.std.specs.List.{AllByRecursion as All}
+use Rattle.std.specs.List.{AllByRecursion}
 use Rattle.reading.specs.Parts.{parts, longer, reach, holds}
 use Rattle.reading.specs.Refused.{spread, PartOf, Stands}
 use Rattle.reading.proofs.PartFacts.{parts_some}
@@ -51,7 +51,7 @@ stand_joined c (b ∷ d ∷ ds) part after =
     )
 
 -- no part holds a c
-parts_alone : (c : ℕ) (bs : List ℕ) → All (λ p. holds c p ≡ false) (parts c bs)
+parts_alone : (c : ℕ) (bs : List ℕ) → AllByRecursion (λ p. holds c p ≡ false) (parts c bs)
 parts_alone c [] = (le-ltb 0 0 (omega arith), tt)
 parts_alone c (b ∷ bs) =
     let h = parts_alone c bs in
@@ -60,11 +60,11 @@ parts_alone c (b ∷ bs) =
     one_more : (p : List ℕ) → eqb b c ≡ false → holds c p ≡ false → holds c (b ∷ p) ≡ false
     one_more p e h = rw e (let l = ltb-false (reach c p) (length p) h in le-ltb (suc (reach c p)) (suc (length p)) (omega arith))
 
-    more : (ps : List (List ℕ)) → eqb b c ≡ false → All (λ p. holds c p ≡ false) ps → All (λ p. holds c p ≡ false) (longer b ps)
+    more : (ps : List (List ℕ)) → eqb b c ≡ false → AllByRecursion (λ p. holds c p ≡ false) ps → AllByRecursion (λ p. holds c p ≡ false) (longer b ps)
     more [] e h = (one_more [] e (le-ltb 0 0 (omega arith)), tt)
     more (p ∷ ps) e h = (one_more p e h.0, h.1)
 
-of_all : (P : List ℕ → Type 0) (vs : List (List ℕ)) → All P vs → (p : PartOf vs) → P p.part
+of_all : (P : List ℕ → Type 0) (vs : List (List ℕ)) → AllByRecursion P vs → (p : PartOf vs) → P p.part
 of_all P [] h p = absurd (no_part p)
 of_all P (v ∷ vs) h p = each_part v vs (λ b x a. P x) h.0 (of_all P vs h.1) p
 

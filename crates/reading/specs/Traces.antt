@@ -147,12 +147,16 @@ read_text K room text =
     cond (twins K.arity K.names) (refuse 10 0 0)
     (cond (nat_lt 40000 (length text)) (refuse 9 0 0) (within_room room (read_all K (lines text))))
 
--- what a reading leaves in the caller's list: the record's totals and what stood behind them, or all as it
--- was, with the one fault of reading that reports the refusal
+-- the fault of an answer, if there is one, is that of reading
+abbrev pub OfReading : {X : Type 0} → Result X FileFault → Type 0
+OfReading (Ok x) = Unit {0}
+OfReading (Err fault) = InReading fault
+
+-- what a reading leaves in the caller's list: the record's totals and what stood behind them, or all as it was
 abbrev pub Reads : {V : Type 0} (K : Kind) → (V → Of K) → List V → List V → Result (List (Of K)) Finding → Result ℕ FileFault → Type 0
 Reads K columns before after reading (Ok days) =
     (reading ≡ Ok (map columns (take days after))) × (days ≤ length after) × (drop days after ≡ drop days before)
-Reads K columns before after reading (Err fault) = (reading ≡ Err (found fault)) × InReading fault × (after ≡ before)
+Reads K columns before after reading (Err fault) = (reading ≡ Err (found fault)) × (after ≡ before)
 
 -- the same of lines that are read into a list as far as it goes
 abbrev pub onto : {X E : Type 0} → List X → Result (List X) E → Result (List X) E
@@ -168,7 +172,7 @@ pub record LinesRead {V : Type 0} (K : Kind) (columns : V → Of K) (before afte
 
 abbrev pub ReadsLines : {V : Type 0} (K : Kind) → (V → Of K) → List V → List V → Result (List (Of K)) Finding → Result ℕ LineFault → Type 0
 ReadsLines K columns before after reading (Ok days) = LinesRead K columns before after reading days
-ReadsLines K columns before after reading (Err fault) = (reading ≡ Err (line_found fault)) × OnLine fault
+ReadsLines K columns before after reading (Err fault) = reading ≡ Err (line_found fault)
 
 -- in the midst of the lines
 pub record Midway {V : Type 0} (K : Kind) (columns : V → Of K) (before after : List V) (reading ahead : Result (List (Of K)) Finding) (days : ℕ) : Type 0 where

@@ -4,7 +4,7 @@ ghost use Rattle.reading.specs.Laws.{ReadingLaw};
 ghost use Rattle.reading.specs.Parts.{fields, lines};
 ghost use Rattle.reading.specs.Refused.{Judged};
 ghost use Rattle.refusals.specs.Faults.{line_found, found};
-ghost use Rattle.reading.specs.Traces.{read_lines, read_all, read_text, within_room, counted, told, Placed, NamesSplit, Reads, ReadsLines};
+ghost use Rattle.reading.specs.Traces.{read_lines, read_all, read_text, within_room, counted, told, OfReading, Placed, NamesSplit, Reads, ReadsLines};
 
 use crate::fields::{LINE_FEED, cut};
 use crate::line::read_line;
@@ -35,7 +35,8 @@ fn read_values<K: Total>(
     totals: &mut [K],
 ) -> Result<usize, LineFault>
     requires { start + length values.now < 2 ^ 62 }
-    ensures { ReadsLines K.Total.kind K.Total.columns totals.old totals.new (read_lines K.Total.kind (fields names.now) 1 start (lines values.now)) result }
+    ensures answer { ReadsLines K.Total.kind K.Total.columns totals.old totals.new (read_lines K.Total.kind (fields names.now) 1 start (lines values.now)) result }
+    ensures place { Placed result }
 {
     let mut days = 0;
     let mut at = start;
@@ -94,7 +95,8 @@ fn split_names<K: Total>(text: &[u8]) -> Result<(&[u8], &[u8]), LineFault>
 // Reads a text of bearable length: all of it is checked before the list is touched.
 fn read_lines<K: Total>(text: &[u8], totals: &mut [K]) -> Result<usize, FileFault>
     requires { length text.now < 2 ^ 62 }
-    ensures { Reads K.Total.kind K.Total.columns totals.old totals.new (within_room (length totals.old) (read_all K.Total.kind (lines text.now))) result }
+    ensures answer { Reads K.Total.kind K.Total.columns totals.old totals.new (within_room (length totals.old) (read_all K.Total.kind (lines text.now))) result }
+    ensures stage { OfReading result }
 {
     let (names, values) = split_names::<K>(text)?;
     let start = names.len() + 1;
@@ -108,7 +110,8 @@ fn read_lines<K: Total>(text: &[u8], totals: &mut [K]) -> Result<usize, FileFaul
 
 // Reads a text of any length: the tests of the whole, then its lines.
 fn read_whole<K: Total>(text: &[u8], totals: &mut [K]) -> Result<usize, FileFault>
-    ensures { Reads K.Total.kind K.Total.columns totals.old totals.new (read_text K.Total.kind (length totals.old) text.now) result }
+    ensures answer { Reads K.Total.kind K.Total.columns totals.old totals.new (read_text K.Total.kind (length totals.old) text.now) result }
+    ensures stage { OfReading result }
 {
     if twin_names::<K>() {
         return Err(FileFault::ReadingWhole(Refusal::WrongNames));
@@ -122,6 +125,7 @@ fn read_whole<K: Total>(text: &[u8], totals: &mut [K]) -> Result<usize, FileFaul
 // The same, by the law of refusals: a refusal is the first condition that the text meets.
 fn read_judged<K: Total>(text: &[u8], totals: &mut [K]) -> Result<usize, FileFault>
     ensures answer { Reads K.Total.kind K.Total.columns totals.old totals.new (read_text K.Total.kind (length totals.old) text.now) result }
+    ensures stage { OfReading result }
     ensures law { Judged K.Total.kind (length totals.old) text.now (told (λ n. n) found result) }
 {
     read_whole(text, totals)
@@ -131,6 +135,7 @@ fn read_judged<K: Total>(text: &[u8], totals: &mut [K]) -> Result<usize, FileFau
 // leaves the list as it was.
 pub fn read_trace<K: Total>(text: &[u8], totals: &mut [K]) -> Result<usize, FileFault>
     ensures answer { Reads K.Total.kind K.Total.columns totals.old totals.new (read_text K.Total.kind (length totals.old) text.now) result }
+    ensures stage { OfReading result }
     ensures law { Judged K.Total.kind (length totals.old) text.now (told (λ n. n) found result) }
 {
     read_judged(text, totals)

@@ -1,6 +1,6 @@
 -- How long lines, pulse texts and reports are.
 use Rattle.std.proofs.Common.{◌≡◌, ℕ, suc, ◌+◌, ◌*◌, ◌^◌, ◌≤◌, Bool, true, List, [], ◌∷◌, ◌++◌, map, length, ℤ, pos, negsuc, decimal, refl, arith}
-use Rattle.std.specs.List.{AllByRecursion as All}
+use Rattle.std.specs.List.{AllByRecursion}
 use Rattle.std.specs.Fmt.{signed_decimal}
 use Rattle.std.proofs.lemmas.List.{length-append}
 use Rattle.std.proofs.lemmas.Fmt.{length-decimal-le}
@@ -70,7 +70,7 @@ module _ (K : Kind) (O : Lawful K) where
         columns_short K.arity p.amount (state out) (O.fitting p.amount s.2),
       )
 
-  lines_short : (out : Pulse K → Bool) (n : ℕ) (ps : List (Pulse K)) → n + length ps ≤ 1001 → All Slim ps → length (pulse_lines K out n ps) ≤ 61 * length ps
+  lines_short : (out : Pulse K → Bool) (n : ℕ) (ps : List (Pulse K)) → n + length ps ≤ 1001 → AllByRecursion Slim ps → length (pulse_lines K out n ps) ≤ 61 * length ps
   unfolding pulse_lines
   lines_short out n [] h a = omega arith
   lines_short out n (p ∷ ps) h a =
@@ -78,11 +78,11 @@ module _ (K : Kind) (O : Lawful K) where
       let m = lines_short out (suc n) ps (omega arith) a.1 in
       omega (arith, length-append (pulse_line K n p (out p)) (pulse_lines K out (suc n) ps))
 
-  all_slim : (ps : List (Pulse K)) (days : ℕ) → days ≤ 1000 → All (λ p. (1 ≤ p.first) × (1 ≤ p.width) × (p.first + p.width ≤ days + 1)) ps → All (λ p. K.has p.amount ≡ true) ps → All Slim ps
+  all_slim : (ps : List (Pulse K)) (days : ℕ) → days ≤ 1000 → AllByRecursion (λ p. (1 ≤ p.first) × (1 ≤ p.width) × (p.first + p.width ≤ days + 1)) ps → AllByRecursion (λ p. K.has p.amount ≡ true) ps → AllByRecursion Slim ps
   all_slim [] days l a b = tt
   all_slim (p ∷ ps) days l a b = ((omega (arith, a.0.0, a.0.1, a.0.2), omega (arith, a.0.0, a.0.1, a.0.2), b.0), all_slim ps days l a.1 b.1)
 
-  pub pulses_short : (out : Pulse K → Bool) (xs : Record K) → length xs ≤ 1000 → All (λ x. within K.arity K.bound x ≡ true) xs → length (pulse_lines K out 1 (pulses K xs)) ≤ 61000
+  pub pulses_short : (out : Pulse K → Bool) (xs : Record K) → length xs ≤ 1000 → AllByRecursion (λ x. within K.arity K.bound x ≡ true) xs → length (pulse_lines K out 1 (pulses K xs)) ≤ 61000
   pulses_short out xs l w =
       let few = pulses_few K O xs in
       let s = all_slim (pulses K xs) (length xs) l (pulses_within K O xs) (in_range K O xs l w).0 in

@@ -1,6 +1,6 @@
 -- What a text that is read holds, and how far in it a refusal can stand.
 use Rattle.std.proofs.Common.{◌≡◌, ℕ, ◌+◌, ◌<◌, ◌≤◌, true, not, ◌&&◌, eqb, ltb, List, [], ◌∷◌, length, is_some, Some, None, Ok, Err, Option, Result, refl, inl, inr, arith}
-use Rattle.std.specs.List.{AllByRecursion as All}
+use Rattle.std.specs.List.{AllByRecursion}
 use Rattle.std.specs.Str.{bytes_eq}
 use Rattle.std.proofs.lemmas.Bool.{cases_Bool, and_parts, cond_both, ltb-false}
 use Rattle.kinds.specs.Columns.{within}
@@ -101,24 +101,24 @@ module _ (K : Kind) (m : ℕ) where
       fair_then m Any Enters (check_line names day at values) _ (check_fair names day at values d h)
       (cond_both (K.has x && within K.arity K.bound x) _ _ (Fair m Enters) (λ e. (and_parts (K.has x) (within K.arity K.bound x) e).1) (λ e. (omega arith, d, omega arith)))
 
-  push_fair : (r : Result (Of K) Finding) (rs : Result (List (Of K)) Finding) → Fair m Enters r → Fair m (All Enters) rs → Fair m (All Enters) (push r rs)
+  push_fair : (r : Result (Of K) Finding) (rs : Result (List (Of K)) Finding) → Fair m Enters r → Fair m (AllByRecursion Enters) rs → Fair m (AllByRecursion Enters) (push r rs)
   push_fair (Ok x) (Ok xs) p q = (p, q)
   push_fair (Ok x) (Err f) p q = q
   push_fair (Err f) rs p q = p
 
-  lines_fair : (names : List (List ℕ)) (day at : ℕ) (ls : List (List ℕ)) → day + 1 + span ls ≤ m → at + span ls ≤ m → Fair m (All Enters) (read_lines K names day at ls)
+  lines_fair : (names : List (List ℕ)) (day at : ℕ) (ls : List (List ℕ)) → day + 1 + span ls ≤ m → at + span ls ≤ m → Fair m (AllByRecursion Enters) (read_lines K names day at ls)
   lines_fair names day at [] d h = tt
   lines_fair names day at (l ∷ rest) d h =
       let s = span_parts 44 l in
-      cond_both (none rest) _ _ (Fair m (All Enters))
-      (λ e. cond_both (none l) _ _ (Fair m (All Enters)) (λ f. tt) (λ f. (omega arith, omega arith, omega arith)))
+      cond_both (none rest) _ _ (Fair m (AllByRecursion Enters))
+      (λ e. cond_both (none l) _ _ (Fair m (AllByRecursion Enters)) (λ f. tt) (λ f. (omega arith, omega arith, omega arith)))
       (λ e. push_fair _ _ (line_fair names day at (fields l) (omega arith) (omega arith)) (lines_fair names (day + 1) (at + (length l + 1)) rest (omega arith) (omega arith)))
 
-  all_fair : (ls : List (List ℕ)) → 1 + span ls ≤ m → Fair m (All Enters) (read_all K ls)
+  all_fair : (ls : List (List ℕ)) → 1 + span ls ≤ m → Fair m (AllByRecursion Enters) (read_all K ls)
   all_fair [] h = tt
   all_fair (names ∷ rest) h =
       let s = span_parts 44 names in
-      fair_then m Any (All Enters) (check_names K names (not (none rest))) _
+      fair_then m Any (AllByRecursion Enters) (check_names K names (not (none rest))) _
       (fair_unless m Any 10 1 (bad_name (trace_names K) (fields names) 0 (fields names)) _ (omega arith) (omega arith)
       (up_to_more (0 + span (fields names)) m _ (omega arith) (bad_name_place (trace_names K) (fields names) 0 (fields names)))
       (cond_both (not (none rest) && all_among (trace_names K) (fields names)) _ _ (Fair m Any) (λ e. tt) (λ e. (omega arith, omega arith, omega arith))))
@@ -126,9 +126,9 @@ module _ (K : Kind) (m : ℕ) where
 
 -- a record that was read is short, and its totals may be entered
 abbrev pub Fit : (K : Kind) → ℕ → List (Of K) → Type 0
-Fit K room xs = (length xs ≤ room) × All (λ x. within K.arity K.bound x ≡ true) xs
+Fit K room xs = (length xs ≤ room) × AllByRecursion (λ x. within K.arity K.bound x ≡ true) xs
 
-room_fair : (K : Kind) (m room : ℕ) (r : Result (List (Of K)) Finding) → Fair m (All (Enters K m)) r → Fair m (Fit K room) (within_room room r)
+room_fair : (K : Kind) (m room : ℕ) (r : Result (List (Of K)) Finding) → Fair m (AllByRecursion (Enters K m)) r → Fair m (Fit K room) (within_room room r)
 room_fair K m room (Ok xs) p = cond_both (ltb room (length xs)) _ _ (Fair m (Fit K room)) (λ e. (omega arith, omega arith, omega arith)) (λ e. (ltb-false room (length xs) e, p))
 room_fair K m room (Err f) p = p
 

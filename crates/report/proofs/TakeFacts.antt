@@ -1,6 +1,6 @@
 -- A record that was read is taken, and the text of its sheet is that of its pulses.
 use Rattle.std.proofs.Common.{◌≡◌, ℕ, zero, suc, ◌+◌, ◌<◌, ◌≤◌, true, false, List, ◌++◌, map, length, get_or, drop, Some, None, Option, ap, ◌∙◌, arith}
-use Rattle.std.specs.List.{AllByRecursion as All}
+use Rattle.std.specs.List.{AllByRecursion}
 use Rattle.std.proofs.lemmas.List.{get_or_append_left, get_or-map, length-map}
 use Rattle.std.proofs.ByRecursion.{All-get_or}
 use Rattle.std.proofs.lemmas.Bool.{both_ways}
@@ -19,12 +19,12 @@ use Rattle.writer.specs.Values.{line}
 use Rattle.report.specs.PulseTexts.{pulse_text, row_lines, sheet_text}
 use Rattle.report.proofs.TextFacts.{all_lines}
 
-may_enter : (K : Kind) (xs : Record K) → All (λ x. within K.arity K.bound x ≡ true) xs → (day : ℕ) → 1 ≤ day → day ≤ length xs → within K.arity K.bound (trace K xs day) ≡ true
+may_enter : (K : Kind) (xs : Record K) → AllByRecursion (λ x. within K.arity K.bound x ≡ true) xs → (day : ℕ) → 1 ≤ day → day ≤ length xs → within K.arity K.bound (trace K xs day) ≡ true
 unfolding trace
 may_enter K xs w zero l h = absurd (omega arith)
 may_enter K xs w (suc d) l h = All-get_or (λ x. within K.arity K.bound x ≡ true) xs d (nought K.arity) (omega arith) w
 
-pub accepted : (K : Kind) (xs : Record K) (entries capacity : ℕ) → length xs ≤ 1000 → All (λ x. within K.arity K.bound x ≡ true) xs → length xs + 2 ≤ entries → length xs ≤ capacity → Accepted K xs entries capacity
+pub accepted : (K : Kind) (xs : Record K) (entries capacity : ℕ) → length xs ≤ 1000 → AllByRecursion (λ x. within K.arity K.bound x ≡ true) xs → length xs + 2 ≤ entries → length xs ≤ capacity → Accepted K xs entries capacity
 accepted K xs entries capacity n w e c TooManyDays g = omega arith
 accepted K xs entries capacity n w e c (MayNotEnter day) g = both_ways _ g.barred (may_enter K xs w day g.starts g.ends)
 accepted K xs entries capacity n w e c WorkTooShort g = omega arith

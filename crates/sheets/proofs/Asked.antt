@@ -16,7 +16,7 @@ use Rattle.sheets.specs.declared.sheet.Stop.TheVariants.{Refused, Unreachable}
 use Rattle.sheets.specs.Takes.{State}
 use Rattle.sheets.specs.History.{Calls, Shows}
 use Rattle.sheets.specs.Standing.{standing_total, standing_trace, standing_swing}
-use Rattle.sheets.specs.Questions.{Unled, ComesOut, Listed, Traced}
+use Rattle.sheets.specs.Questions.{Unled, ComesOut, Listed, FilledAtLeast, Traced}
 use Rattle.sheets.specs.Inside.{RowHeld, Stands, Steps, step, SwingsSoFar}
 use Rattle.sheets.proofs.Slots.{slot_cases}
 use Rattle.sheets.proofs.History.{shows_full}
@@ -77,7 +77,7 @@ days_front K n i x h = sym (take-map-range_with_len x 1 n i h)
 
 -- a trace that stops before its last day, in a sheet that no list of calls leads to
 pub trace_stops : {V : Type 0} (K : Kind) (columns : V → Of K) (s : State) (i : ℕ) (before now : List V) (x : Of K) (stop : Stop) → i ≤ s.days → map columns (take i now) ≡ days K i (standing_total K s) →
-    drop i now ≡ drop i before → ComesOut K columns s x (Err stop) → Traced K columns s before now (Err stop)
+    drop i now ≡ drop i before → ComesOut K columns s x (Err stop) → Traced K columns s before now (Err stop) × FilledAtLeast K columns s before now (Err stop)
 trace_stops K columns s i before now x (Refused r) h m e c = absurd c
 trace_stops K columns s i before now x Unreachable h m e c =
     (c, (i, record { within = h; totals = m ∙ days_front K s.days i (standing_total K s) h; rest = e }))

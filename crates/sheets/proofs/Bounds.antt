@@ -1,7 +1,7 @@
 -- The pulses of a record whose totals may be entered: their days are the record's, and their amounts
 -- within twice the bound.
 use Rattle.std.proofs.Common.{ℕ, ◌+◌, ◌≤◌, List, [], ◌∷◌, length}
-use Rattle.std.specs.List.{AllByRecursion as All}
+use Rattle.std.specs.List.{AllByRecursion}
 use Rattle.kinds.specs.Kinds.{Kind, Of, Lawful}
 use Rattle.transform.specs.Windows.{Record, trace}
 use Rattle.transform.specs.Pulses.{Pulse, pulses}
@@ -18,11 +18,11 @@ pub record Fair (K : Kind) (days : ℕ) (p : Pulse K) : Type 0 where
   pub ends : p.first + p.width ≤ days + 1
   pub amount : Within K 2 p.amount
 
-all_both : {X : Type 0} (P Q R : X → Type 0) → ((x : X) → P x → Q x → R x) → (xs : List X) → All P xs → All Q xs → All R xs
+all_both : {X : Type 0} (P Q R : X → Type 0) → ((x : X) → P x → Q x → R x) → (xs : List X) → AllByRecursion P xs → AllByRecursion Q xs → AllByRecursion R xs
 all_both P Q R f [] h k = tt
 all_both P Q R f (x ∷ xs) h k = (f x h.0 k.0, all_both P Q R f xs h.1 k.1)
 
-pub pulses_fair : (K : Kind) (O : Lawful K) (xs : Record K) → ((d : ℕ) → Within K 1 (trace K xs d)) → All (Fair K (length xs)) (pulses K xs)
+pub pulses_fair : (K : Kind) (O : Lawful K) (xs : Record K) → ((d : ℕ) → Within K 1 (trace K xs d)) → AllByRecursion (Fair K (length xs)) (pulses K xs)
 pulses_fair K O xs h =
     all_both _ _ _
     (λ p (f, w, e) (a, b, i, j, m). record { starts = f; wide = w; ends = e; amount = rw m (up_to_minus K.arity K.bound 1 1 a b i j) })

@@ -1,6 +1,6 @@
 -- What each call does to the history.
 use Rattle.std.proofs.Common.{◌≡◌, ℕ, zero, suc, ◌-◌, ◌<◌, ◌≤◌, Bool, true, false, cond, ◌&&◌, eqb, leb, ◌⊎◌, List, [], ◌∷◌, ◌++◌, map, length, get_or, drop, Some, None, Ok, Err, Decides, Option, Result, sym, refl, ap, ◌∙◌, subst, inl, inr, arith}
-use Rattle.std.specs.List.{ContainsAt as Has, AllByRecursion as All}
+use Rattle.std.specs.List.{ContainsAt as Has, AllByRecursion}
 use Rattle.std.proofs.lemmas.Bool.{cases_Bool, cases_eq, cases_lt, cases_order, both_ways, and_parts, and_from, leb-true, le-leb, eqb-true, eq-eqb, ne_eqb}
 use Rattle.std.proofs.ByRecursion.{All-get_or}
 use Rattle.std.proofs.lemmas.List.{get_or_default, get_or_append_left, get_or-map, length-append, length-map, length-drop}
@@ -54,7 +54,7 @@ module _ (K : Kind) (capacity : ℕ) where
   held_cases c h xs (inr (e, (f, l))) = inr (f, inr (e, l))
   held_cases c h xs (inl t) = go t.later t.split t.since
     where
-      go : (later : Calls K) → c ∷ h ≡ later ++ (taking xs t.entries ∷ t.earlier) → All (λ c. Takes K capacity c → ⊥) later → ((entries : ℕ) × (c ≡ taking xs entries) × Accepted K xs entries capacity) ⊎ ((Takes K capacity c → ⊥) × Held K capacity h xs)
+      go : (later : Calls K) → c ∷ h ≡ later ++ (taking xs t.entries ∷ t.earlier) → AllByRecursion (λ c. Takes K capacity c → ⊥) later → ((entries : ℕ) × (c ≡ taking xs entries) × Accepted K xs entries capacity) ⊎ ((Takes K capacity c → ⊥) × Held K capacity h xs)
       go [] e s = inl (t.entries, cons_head e, t.accepted)
       go (b ∷ later) e (f, s) = inr (
         subst (λ a. Takes K capacity a → ⊥) (sym (cons_head e)) f,
@@ -100,7 +100,7 @@ module _ (K : Kind) (capacity : ℕ) where
     pub out_cases : (c : Call K) (h : Calls K) → Out K capacity xs (c ∷ h) p → Puts c ⊎ ((Concerns K capacity xs c p → ⊥) × Out K capacity xs h p)
     out_cases c h o = go o.later o.split o.since
       where
-        go : (later : Calls K) → c ∷ h ≡ later ++ (o.call ∷ o.earlier) → All (λ c. Concerns K capacity xs c p → ⊥) later → Puts c ⊎ ((Concerns K capacity xs c p → ⊥) × Out K capacity xs h p)
+        go : (later : Calls K) → c ∷ h ≡ later ++ (o.call ∷ o.earlier) → AllByRecursion (λ c. Concerns K capacity xs c p → ⊥) later → Puts c ⊎ ((Concerns K capacity xs c p → ⊥) × Out K capacity xs h p)
         go [] e s = let z : o.call ≡ c = sym (cons_head e) in inl (subst (λ a. Puts a) z (o.removal, o.accepted, o.names))
         go (b ∷ later) e (f, s) = inr (
           subst (λ a. Concerns K capacity xs a p → ⊥) (sym (cons_head e)) f,

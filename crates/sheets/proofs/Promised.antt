@@ -1,7 +1,7 @@
 -- A sheet that shows a history keeps the promise.
 use Rattle.std.proofs.Common.{◌≡◌, ℕ, suc, ◌<◌, ◌≤◌, Bool, true, false, cond, not, ltb, ◌⊎◌, ◌↔◌, List, [], ◌∷◌, length, Decides, Result, sym, refl, ap, ◌∙◌, subst, inl, inr, arith}
 use mathlib.Core.Path.{fun_ext}
-use Rattle.std.specs.List.{ContainsAt as Has, AllByRecursion as All}
+use Rattle.std.specs.List.{ContainsAt as Has, AllByRecursion}
 use Rattle.std.proofs.lemmas.Bool.{cases_Bool, cases_lt, both_ways, ltb-false, lt-ltb, le-ltb}
 use Rattle.std.proofs.lemmas.List.{ext_get_or}
 use Rattle.std.proofs.lemmas.List.FromFn.{length-map-range_with_len}
@@ -20,18 +20,18 @@ use Rattle.sheets.specs.Takes.{State}
 use Rattle.sheets.specs.Calls.{Call}
 use Rattle.sheets.specs.History.{Calls, Out, Shows}
 use Rattle.sheets.specs.Standing.{standing_total, standing_trace, standing_swing}
-use Rattle.sheets.specs.Promise.{OutExactly, Promise, Continues}
+use Rattle.sheets.specs.Promise.{OutExactly, Promise, Keeps}
 use Rattle.sheets.proofs.Bounds.{Fair}
 use Rattle.sheets.proofs.History.{held_one, ShowsOn}
 use Rattle.sheets.proofs.Shown.{left_is, shown_fair, all_chosen}
 
 -- choices that agree on the list are the same
-chosen_same : {A : Type 0} (test other : A → Bool) (xs : List A) → All (λ x. test x ≡ other x) xs → chosen test xs ≡ chosen other xs
+chosen_same : {A : Type 0} (test other : A → Bool) (xs : List A) → AllByRecursion (λ x. test x ≡ other x) xs → chosen test xs ≡ chosen other xs
 unfolding chosen
 chosen_same test other [] h = refl
 chosen_same test other (x ∷ xs) (h, hs) = rw (h, chosen_same test other xs hs) refl
 
-all_of_has : {A : Type 0} (P : A → Type 0) (xs : List A) → ((x : A) → Has xs x → P x) → All P xs
+all_of_has : {A : Type 0} (P : A → Type 0) (xs : List A) → ((x : A) → Has xs x → P x) → AllByRecursion P xs
 all_of_has P [] f = tt
 all_of_has P (x ∷ xs) f = (f x (0, omega arith, λ d. refl), all_of_has P xs (λ y (k, l, e). f y (suc k, omega arith, e)))
 
@@ -59,7 +59,7 @@ not_covering K n p d f o = elim (cases_Bool (covers p d)) [
   | inl e ↦ absurd (let a = covers_first p d e in let b = covers_last p d e in elim o [ inl z ↦ omega (arith, f.starts) | inr z ↦ omega (arith, f.ends) ])
 ]
 
-standing_outside : (K : Kind) (n : ℕ) (ps : List (Pulse K)) (d : ℕ) → All (Fair K n) ps → (d ≡ 0) ⊎ (n < d) → standing K ps d ≡ nought K.arity
+standing_outside : (K : Kind) (n : ℕ) (ps : List (Pulse K)) (d : ℕ) → AllByRecursion (Fair K n) ps → (d ≡ 0) ⊎ (n < d) → standing K ps d ≡ nought K.arity
 unfolding standing
 standing_outside K n [] d h o = refl
 standing_outside K n (p ∷ ps) d (h, hs) o = rw (not_covering K n p d h o, standing_outside K n ps d hs o) (plus_nought _ _)
@@ -144,5 +144,5 @@ promised K O h s S = record {
 }
 
 -- a call that shows the history with itself added keeps the promise
-pub continues : {A : Type 0} (K : Kind) (O : Lawful K) (c : Call K) (s t : State) (r : Result A Stop) → ShowsOn K c s t r → Continues K c s t r
-continues K O c s t r f h S = let z = f h S in (promised K O (c ∷ h) t z.0, z.1)
+pub keeps : {A : Type 0} (K : Kind) (O : Lawful K) (c : Call K) (s t : State) (r : Result A Stop) → ShowsOn K c s t r → Keeps K c s t
+keeps K O c s t r f h S = promised K O (c ∷ h) t (f h S).0

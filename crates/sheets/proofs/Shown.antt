@@ -1,6 +1,6 @@
 -- What is true of a sheet that shows a history.
 use Rattle.std.proofs.Common.{◌≡◌, ℕ, zero, suc, ◌*◌, ◌<◌, ◌≤◌, Bool, true, false, not, List, [], ◌∷◌, ◌++◌, length, get_or, take, None, sym, refl, ap, ◌∙◌, subst, inl, inr, add-one, arith}
-use Rattle.std.specs.List.{AllByRecursion as All}
+use Rattle.std.specs.List.{AllByRecursion}
 use Rattle.std.proofs.lemmas.Bool.{cases_Bool, cases_eq, cases_lt, both_ways}
 use Rattle.std.proofs.lemmas.List.{take_more, take_all, length-take-le}
 use Rattle.std.proofs.ByRecursion.{All-weaker, All-take}
@@ -62,7 +62,7 @@ unfolding chosen
 chosen_length test [] = omega arith
 chosen_length test (x ∷ xs) = let h = chosen_length test xs in elim (cases_Bool (test x)) [ inl e ↦ rw e (omega arith) | inr e ↦ rw e (omega arith) ]
 
-pub all_chosen : {A : Type 0} (P : A → Type 0) (test : A → Bool) (xs : List A) → All P xs → All P (chosen test xs)
+pub all_chosen : {A : Type 0} (P : A → Type 0) (test : A → Bool) (xs : List A) → AllByRecursion P xs → AllByRecursion P (chosen test xs)
 unfolding chosen
 all_chosen P test [] h = tt
 all_chosen P test (x ∷ xs) (h, hs) = elim (cases_Bool (test x)) [ inl e ↦ rw e (h, all_chosen P test xs hs) | inr e ↦ rw e (all_chosen P test xs hs) ]
@@ -88,7 +88,7 @@ module _ (K : Kind) (h : Calls K) (s : State) (S : Shows K h s) where
   left_is = slots_left s.count (omega (arith, S.count)) ∙ ap (chosen (λ p. not (S.out p))) (take_all s.count (pulses K S.totals) (omega (arith, S.count)))
 
   module _ (O : Lawful K) where
-    pub shown_fair : All (Fair K (length S.totals)) (pulses K S.totals)
+    pub shown_fair : AllByRecursion (Fair K (length S.totals)) (pulses K S.totals)
     shown_fair = pulses_fair K O S.totals (held_within K (length s.slots) h S.totals S.held).1
 
     pub shown_days : s.days ≤ 1000

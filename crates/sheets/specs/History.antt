@@ -1,7 +1,7 @@
 -- The history of a sheet: its calls other than questions, the newest first. From it follow the
 -- record held and the pulses out.
 use Rattle.std.specs.Prelude.{◌≡◌, ℕ, ◌<◌, Bool, ◌⊎◌, List, [], ◌∷◌, ◌++◌, length, Some, None, Ok, Err, Decides, Result, slice_index_or}
-use Rattle.std.specs.List.{ContainsAt as Has, AllByRecursion as All}
+use Rattle.std.specs.List.{ContainsAt as Has, AllByRecursion}
 use Rattle.kinds.specs.Kinds.{Kind}
 use Rattle.shelves.specs.Slots.{Entry, listed}
 use Rattle.transform.specs.Windows.{Record}
@@ -28,11 +28,11 @@ pub record LastTake (K : Kind) (capacity : ℕ) (h : Calls K) (xs : Record K) : 
   pub earlier : Calls K
   pub split : h ≡ later ++ (taking xs entries ∷ earlier)
   pub accepted : Accepted K xs entries capacity
-  pub since : All (λ c. Takes K capacity c → ⊥) later
+  pub since : AllByRecursion (λ c. Takes K capacity c → ⊥) later
 
 -- the record held after the calls h: that of the last accepted take, and at first the empty one
 abbrev pub Held : (K : Kind) → ℕ → Calls K → Record K → Type 0
-Held K capacity h xs = LastTake K capacity h xs ⊎ ((xs ≡ []) × All (λ c. Takes K capacity c → ⊥) h)
+Held K capacity h xs = LastTake K capacity h xs ⊎ ((xs ≡ []) × AllByRecursion (λ c. Takes K capacity c → ⊥) h)
 
 -- while the record xs is held: the call is accepted, and it is a take or names the pulse
 abbrev pub Concerns : (K : Kind) → ℕ → Record K → Call K → Pulse K → Type 0
@@ -49,7 +49,7 @@ pub record Out (K : Kind) (capacity : ℕ) (xs : Record K) (h : Calls K) (p : Pu
   pub removal : Removes call
   pub accepted : Allowed K capacity (length (pulses K xs)) call
   pub names : Names K xs call p
-  pub since : All (λ c. Concerns K capacity xs c p → ⊥) later
+  pub since : AllByRecursion (λ c. Concerns K capacity xs c p → ⊥) later
 
 -- the row of a pulse, with its mark
 abbrev pub row : {K : Kind} → Pulse K → Bool → Entry
@@ -72,3 +72,8 @@ abbrev pub Strays : {A : Type 0} → Result A Stop → Type 0
 Strays (Ok n) = ⊥
 Strays (Err (Refused r)) = ⊥
 Strays (Err Unreachable) = Unit {0}
+
+-- What a call does to the history: the sheet after it shows the history with the call added, and an
+-- answer that borrows no number never occurs.
+abbrev pub Continues : {A : Type 0} (K : Kind) → Call K → State → State → Result A Stop → Type 0
+Continues K c before after r = (h : Calls K) → Shows K h before → Shows K (c ∷ h) after × (Strays r → ⊥)

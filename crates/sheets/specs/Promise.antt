@@ -8,7 +8,7 @@ use Rattle.transform.specs.Pulses.{Pulse, pulses, chosen, standing, sizes, swing
 use Rattle.sheets.specs.declared.sheet.Stop.{Stop}
 use Rattle.sheets.specs.Takes.{State}
 use Rattle.sheets.specs.Calls.{Call}
-use Rattle.sheets.specs.History.{Calls, Held, Out, Shows, Strays}
+use Rattle.sheets.specs.History.{Calls, Held, Out, Shows}
 use Rattle.sheets.specs.Standing.{standing_total, standing_trace, standing_swing}
 
 -- a pulse p of the record xs is out exactly when P p
@@ -38,7 +38,6 @@ pub record Promise (K : Kind) (h : Calls K) (s : State) : Type 0 where
   pub smooths : (w : ℕ) →
       (standing_trace K s ≡ smooth K w shows.totals) ↔ OutExactly K (length s.slots) shows.totals h (λ p. p.width ≤ w)
 
--- What a call does to the history: the sheet after it keeps the promise for the history with the call
--- added, and an answer that borrows no number never occurs.
-abbrev pub Continues : {A : Type 0} (K : Kind) → Call K → State → State → Result A Stop → Type 0
-Continues K c before after r = (h : Calls K) → Shows K h before → Promise K (c ∷ h) after × (Strays r → ⊥)
+-- what a call does to the promise: the sheet after it keeps it for the history with the call added
+abbrev pub Keeps : (K : Kind) → Call K → State → State → Type 0
+Keeps K c before after = (h : Calls K) → Shows K h before → Promise K (c ∷ h) after

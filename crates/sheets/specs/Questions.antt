@@ -50,4 +50,10 @@ abbrev pub Traced : {V : Type 0} (K : Kind) → (V → Of K) → State → List 
 Traced K columns s before after (Ok n) =
     (n ≡ s.days) × (n ≤ length before) × (map columns (take n after) ≡ standing_trace K s) × (drop n after ≡ drop n before)
 Traced K columns s before after (Err (Refused r)) = (number r ≡ 8) × (length before < s.days) × (after ≡ before)
-Traced K columns s before after (Err Unreachable) = Unled K s × ((n : ℕ) × Filled K columns s before after n)
+Traced K columns s before after (Err Unreachable) = Unled K s
+
+-- what a trace leaves in the list where it answers for a state that no list of calls leads to
+abbrev pub FilledAtLeast : {V : Type 0} (K : Kind) → (V → Of K) → State → List V → List V → Result ℕ Stop → Type 0
+FilledAtLeast K columns s before after (Ok n) = Unit {0}
+FilledAtLeast K columns s before after (Err (Refused r)) = Unit {0}
+FilledAtLeast K columns s before after (Err Unreachable) = (n : ℕ) × Filled K columns s before after n

@@ -3,7 +3,8 @@ ghost use Rattle.std.specs.Prelude.{◌≡◌, [], map, length};
 ghost use Rattle.sheets.specs.Takes.{Take, opened, state_of};
 ghost use Rattle.sheets.specs.Calls.{taking, marking, marking_one, removing, restoring, removing_one, restoring_one};
 ghost use Rattle.sheets.specs.Marks.{Marking};
-ghost use Rattle.sheets.specs.Promise.{Promise, Continues};
+ghost use Rattle.sheets.specs.History.{Continues, Shows};
+ghost use Rattle.sheets.specs.Promise.{Keeps, Promise};
 
 use crate::marks::{mark_number, mark_widths};
 use crate::sheet::{Sheet, Stop};
@@ -20,7 +21,8 @@ impl<K: Total, S: Shelf<K>> Sheet<K, S> {
     pub fn new(shelf: S) -> Sheet<K, S>
         ensures shelf { result.shelf ≡ shelf }
         ensures answer { state_of S.slots S.outside result ≡ opened (S.slots shelf) (S.outside shelf) }
-        ensures history { Promise K.kind [] (state_of S.slots S.outside result) }
+        ensures history { Shows K.kind [] (state_of S.slots S.outside result) }
+        ensures promise { Promise K.kind [] (state_of S.slots S.outside result) }
     {
         begun(shelf)
     }
@@ -30,6 +32,7 @@ impl<K: Total, S: Shelf<K>> Sheet<K, S> {
     pub fn take(&mut self, totals: &[K], work: &mut [WorkEntry<K>]) -> Result<usize, Stop>
         ensures answer { Take K.kind (map K.columns totals.now) (length work.old) (state_of S.slots S.outside self.old) (state_of S.slots S.outside self.new) self.old self.new work.old work.new result }
         ensures history { Continues K.kind (taking (map K.columns totals.now) (length work.old)) (state_of S.slots S.outside self.old) (state_of S.slots S.outside self.new) result }
+        ensures promise { Keeps K.kind (taking (map K.columns totals.now) (length work.old)) (state_of S.slots S.outside self.old) (state_of S.slots S.outside self.new) }
     {
         take_on(self, totals, work)
     }
@@ -39,6 +42,7 @@ impl<K: Total, S: Shelf<K>> Sheet<K, S> {
     pub fn remove(&mut self, lowest: usize, highest: usize) -> Result<usize, Stop>
         ensures answer { Marking K.kind (removing lowest highest) (state_of S.slots S.outside self.old) (state_of S.slots S.outside self.new) self.old self.new result }
         ensures history { Continues K.kind (removing lowest highest) (state_of S.slots S.outside self.old) (state_of S.slots S.outside self.new) result }
+        ensures promise { Keeps K.kind (removing lowest highest) (state_of S.slots S.outside self.old) (state_of S.slots S.outside self.new) }
     {
         mark_range(self, Mark::Out, lowest, highest)
     }
@@ -47,6 +51,7 @@ impl<K: Total, S: Shelf<K>> Sheet<K, S> {
     pub fn restore(&mut self, lowest: usize, highest: usize) -> Result<usize, Stop>
         ensures answer { Marking K.kind (restoring lowest highest) (state_of S.slots S.outside self.old) (state_of S.slots S.outside self.new) self.old self.new result }
         ensures history { Continues K.kind (restoring lowest highest) (state_of S.slots S.outside self.old) (state_of S.slots S.outside self.new) result }
+        ensures promise { Keeps K.kind (restoring lowest highest) (state_of S.slots S.outside self.old) (state_of S.slots S.outside self.new) }
     {
         mark_range(self, Mark::In, lowest, highest)
     }
@@ -55,6 +60,7 @@ impl<K: Total, S: Shelf<K>> Sheet<K, S> {
     pub fn remove_one(&mut self, number: usize) -> Result<usize, Stop>
         ensures answer { Marking K.kind (removing_one number) (state_of S.slots S.outside self.old) (state_of S.slots S.outside self.new) self.old self.new result }
         ensures history { Continues K.kind (removing_one number) (state_of S.slots S.outside self.old) (state_of S.slots S.outside self.new) result }
+        ensures promise { Keeps K.kind (removing_one number) (state_of S.slots S.outside self.old) (state_of S.slots S.outside self.new) }
     {
         mark_one(self, Mark::Out, number)
     }
@@ -63,6 +69,7 @@ impl<K: Total, S: Shelf<K>> Sheet<K, S> {
     pub fn restore_one(&mut self, number: usize) -> Result<usize, Stop>
         ensures answer { Marking K.kind (restoring_one number) (state_of S.slots S.outside self.old) (state_of S.slots S.outside self.new) self.old self.new result }
         ensures history { Continues K.kind (restoring_one number) (state_of S.slots S.outside self.old) (state_of S.slots S.outside self.new) result }
+        ensures promise { Keeps K.kind (restoring_one number) (state_of S.slots S.outside self.old) (state_of S.slots S.outside self.new) }
     {
         mark_one(self, Mark::In, number)
     }
@@ -72,7 +79,8 @@ impl<K: Total, S: Shelf<K>> Sheet<K, S> {
 fn begun<K: Total, S: Shelf<K>>(shelf: S) -> Sheet<K, S>
     ensures shelf { result.shelf ≡ shelf }
     ensures answer { state_of S.slots S.outside result ≡ opened (S.slots shelf) (S.outside shelf) }
-    ensures history { Promise K.kind [] (state_of S.slots S.outside result) }
+    ensures history { Shows K.kind [] (state_of S.slots S.outside result) }
+    ensures promise { Promise K.kind [] (state_of S.slots S.outside result) }
 {
     blank(shelf)
 }
@@ -98,6 +106,7 @@ fn take_on<K: Total, S: Shelf<K>>(
 ) -> Result<usize, Stop>
     ensures answer { Take K.kind (map K.columns totals.now) (length work.old) (state_of S.slots S.outside sheet.old) (state_of S.slots S.outside sheet.new) sheet.old sheet.new work.old work.new result }
     ensures history { Continues K.kind (taking (map K.columns totals.now) (length work.old)) (state_of S.slots S.outside sheet.old) (state_of S.slots S.outside sheet.new) result }
+    ensures promise { Keeps K.kind (taking (map K.columns totals.now) (length work.old)) (state_of S.slots S.outside sheet.old) (state_of S.slots S.outside sheet.new) }
 {
     sheet.take_record(totals, work)
 }
@@ -111,6 +120,7 @@ fn mark_range<K: Total, S: Shelf<K>>(
 ) -> Result<usize, Stop>
     ensures answer { Marking K.kind (marking mark low high) (state_of S.slots S.outside sheet.old) (state_of S.slots S.outside sheet.new) sheet.old sheet.new result }
     ensures history { Continues K.kind (marking mark low high) (state_of S.slots S.outside sheet.old) (state_of S.slots S.outside sheet.new) result }
+    ensures promise { Keeps K.kind (marking mark low high) (state_of S.slots S.outside sheet.old) (state_of S.slots S.outside sheet.new) }
 {
     change_range(sheet, mark, low, high)
 }
@@ -123,6 +133,7 @@ fn mark_one<K: Total, S: Shelf<K>>(
 ) -> Result<usize, Stop>
     ensures answer { Marking K.kind (marking_one mark number) (state_of S.slots S.outside sheet.old) (state_of S.slots S.outside sheet.new) sheet.old sheet.new result }
     ensures history { Continues K.kind (marking_one mark number) (state_of S.slots S.outside sheet.old) (state_of S.slots S.outside sheet.new) result }
+    ensures promise { Keeps K.kind (marking_one mark number) (state_of S.slots S.outside sheet.old) (state_of S.slots S.outside sheet.new) }
 {
     change_one(sheet, mark, number)
 }

@@ -4,7 +4,7 @@ ghost use Rattle.kinds.specs.Kinds.{Gives};
 ghost use Rattle.transform.specs.Pulses.{size};
 ghost use Rattle.sheets.specs.Takes.{state_of};
 ghost use Rattle.sheets.specs.Standing.{standing_total, standing_swing};
-ghost use Rattle.sheets.specs.Questions.{ComesOut, Listed, StandingTotal, Traced};
+ghost use Rattle.sheets.specs.Questions.{ComesOut, Listed, StandingTotal, FilledAtLeast, Traced};
 ghost use Rattle.sheets.specs.Inside.{PulseOfRow, IsSoFar, Steps, SwingsSoFar};
 
 use crate::marks::held_row;
@@ -60,7 +60,8 @@ impl<K: Total, S: Shelf<K>> Sheet<K, S> {
 
     // Writes the standing trace into the first entries of a list. Answers the number of days.
     pub fn trace(&self, totals: &mut [K]) -> Result<usize, Stop>
-        ensures { Traced K.kind K.columns (state_of S.slots S.outside self.now) totals.old totals.new result }
+        ensures answer { Traced K.kind K.columns (state_of S.slots S.outside self.now) totals.old totals.new result }
+        ensures filled { FilledAtLeast K.kind K.columns (state_of S.slots S.outside self.now) totals.old totals.new result }
     {
         if totals.len() < self.days {
             return Err(Stop::Refused(Refusal::ListTooShort));
@@ -124,7 +125,8 @@ fn pulse_of<K: Total>(row: Row<K>) -> Option<ListedPulse<K>>
 // Writes the standing trace into a list that has room.
 fn write_trace<K: Total, S: Shelf<K>>(sheet: &Sheet<K, S>, totals: &mut [K]) -> Result<usize, Stop>
     requires { sheet.now.days ≤ length totals.old }
-    ensures { Traced K.kind K.columns (state_of S.slots S.outside sheet.now) totals.old totals.new result }
+    ensures answer { Traced K.kind K.columns (state_of S.slots S.outside sheet.now) totals.old totals.new result }
+    ensures filled { FilledAtLeast K.kind K.columns (state_of S.slots S.outside sheet.now) totals.old totals.new result }
 {
     for day in 0..sheet.days {
         match day_total(sheet, day + 1) {

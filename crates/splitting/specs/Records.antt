@@ -15,7 +15,8 @@ marked_in first width columns = Some (record { first = first; width = width; out
 
 -- the row of a pulse that is marked in
 abbrev pub row_of : {K : Kind} → Pulse K → Option Entry
-row_of {K} p = marked_in p.first p.width (listed K.arity p.amount)
+row_of {K} p =
+    Some (record { first = p.first; width = p.width; out = false; columns = listed K.arity p.amount })
 
 -- the slots once pulse i is put in slot i - 1, for each pulse of the list
 abbrev pub laid : {K : Kind} → List (Pulse K) → List (Option Entry) → List (Option Entry)

@@ -1,7 +1,7 @@
 -- Choices among the pulses of a record: different ones have different sums, and no two pulses
 -- cover the same days.
 use Rattle.std.proofs.Common.{◌≡◌, ℕ, zero, suc, ◌+◌, ◌<◌, Bool, List, [], ◌∷◌, length, get_or, sym, refl, ap, ◌∙◌, subst, inl, inr, arith}
-use Rattle.std.specs.List.{ContainsAt as Has, AllByRecursion as All}
+use Rattle.std.specs.List.{ContainsAt as Has, AllByRecursion}
 use Rattle.kinds.specs.Kinds.{Kind, Lawful}
 use Rattle.transform.specs.Windows.{Record, Trace}
 use Rattle.transform.specs.Pulses.{Pulse, pulses, chosen, standing}
@@ -16,7 +16,7 @@ flags_at test [] k a h = absurd (let z : k < 0 = h in omega arith)
 flags_at test (x ∷ xs) zero a h = refl
 flags_at test (x ∷ xs) (suc k) a h = flags_at test xs k a (let z : suc k < suc (length xs) = h in omega arith)
 
-all_both : {X : Type 0} (P Q R : X → Type 0) → ((x : X) → P x → Q x → R x) → (xs : List X) → All P xs → All Q xs → All R xs
+all_both : {X : Type 0} (P Q R : X → Type 0) → ((x : X) → P x → Q x → R x) → (xs : List X) → AllByRecursion P xs → AllByRecursion Q xs → AllByRecursion R xs
 all_both P Q R f [] h k = tt
 all_both P Q R f (x ∷ xs) h k = (f x h.0 k.0, all_both P Q R f xs h.1 k.1)
 
@@ -34,14 +34,14 @@ module _ (K : Kind) (O : Lawful K) where
       flags_at keep' (pulses K xs) k p h ∙ ap keep' (e p)
 
   -- no pulse has an edge where the trace does not move
-  still_for_all : (b : ℕ) (ps : List (Pulse K)) (x z : Trace K) → Levels K x ps z → x (suc b) ≡ x b → All (λ p. shape K p (suc b) ≡ shape K p b) ps
+  still_for_all : (b : ℕ) (ps : List (Pulse K)) (x z : Trace K) → Levels K x ps z → x (suc b) ≡ x b → AllByRecursion (λ p. shape K p (suc b) ≡ shape K p b) ps
   still_for_all b [] x z l e = tt
   still_for_all b (p ∷ ps) x z (q, f, s, k) e =
       let S = either_step K O x q p.width p.amount s in
       (rw f (follows_still K O x _ S.taken b e), still_for_all b ps _ z k (follows_still K O x _ S.left b e))
 
   -- and each has one at its first day and one at its last
-  edges_of_all : (ps : List (Pulse K)) (x z : Trace K) → Levels K x ps z → All (λ p. (q : ℕ) × (p.first ≡ suc q) × (shape K p (suc q) ≡ shape K p q → ⊥) × (shape K p (suc (q + p.width)) ≡ shape K p (q + p.width) → ⊥)) ps
+  edges_of_all : (ps : List (Pulse K)) (x z : Trace K) → Levels K x ps z → AllByRecursion (λ p. (q : ℕ) × (p.first ≡ suc q) × (shape K p (suc q) ≡ shape K p q → ⊥) × (shape K p (suc (q + p.width)) ≡ shape K p (q + p.width) → ⊥)) ps
   edges_of_all [] x z l = tt
   edges_of_all (p ∷ ps) x z (q, f, s, k) =
       let S = either_step K O x q p.width p.amount s in

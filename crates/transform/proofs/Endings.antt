@@ -1,6 +1,6 @@
 -- Where the listing ends, what its fronts are, and what totals and days its pulses can have.
 use Rattle.std.proofs.Common.{◌≡◌, ℕ, zero, suc, ◌+◌, ◌-◌, ◌<◌, ◌≤◌, Bool, true, List, [], ◌++◌, length, sym, refl, ap, ◌∙◌, arith}
-use Rattle.std.specs.List.{AllByRecursion as All}
+use Rattle.std.specs.List.{AllByRecursion}
 use Rattle.std.proofs.lemmas.List.{append-nil, append_assoc}
 use Rattle.std.proofs.ByRecursion.{All-append, All-weaker}
 use Rattle.kinds.specs.Columns.{nought, minus}
@@ -39,7 +39,7 @@ module _ (K : Kind) (O : Lawful K) (P : Of K → Type 0) (xs : Record K) (h : (d
   lowered_among n d = rw (trace_lowered K O (suc n) (smooth K n xs)) (L_among K O P (suc n) _ (smooth_among n) d)
 
   -- each amount is the difference of two such totals
-  pub pulses_among : All (λ p. (a b : Of K) × P a × P b × (p.amount ≡ minus K.arity a b)) (pulses K xs)
+  pub pulses_among : AllByRecursion (λ p. (a b : Of K) × P a × P b × (p.amount ≡ minus K.arity a b)) (pulses K xs)
   unfolding pulses
   pulses_among = all_in_turn _ (length xs) (stage K xs) (λ n. All-append _ (upward K xs (suc n)) (downward K xs (suc n))
       (All-weaker _ _ (λ p r. (_, _, smooth_among n p.first, lowered_among n p.first, sym (r.0.even p.first (starts p r.0.wide)))) _ (upward_regular K O xs n))
@@ -89,7 +89,7 @@ module _ (K : Kind) (O : Lawful K) (xs : Record K) where
   past_none (suc n) h = let (u, v, X) = flat_stage n (smooth_flat K O n xs (omega arith)) in (u, v)
 
   -- each pulse lies within the record
-  pub pulses_within : All (λ p. (1 ≤ p.first) × (1 ≤ p.width) × (p.first + p.width ≤ length xs + 1)) (pulses K xs)
+  pub pulses_within : AllByRecursion (λ p. (1 ≤ p.first) × (1 ≤ p.width) × (p.first + p.width ≤ length xs + 1)) (pulses K xs)
   unfolding pulses
   pulses_within = all_in_turn _ (length xs) (stage K xs) (λ n. All-append _ (upward K xs (suc n)) (downward K xs (suc n))
       (All-weaker _ _ (λ p r. (r.0.starts, let e = r.0.wide in omega arith, r.0.ends)) _ (upward_regular K O xs n))

@@ -1,7 +1,7 @@
 -- The listing of what L changes: its pulses are the bumps of width n, one after another.
 use Rattle.std.proofs.Common.{◌≡◌, ℕ, zero, suc, ◌+◌, ◌-◌, ◌<◌, ◌≤◌, Bool, true, false, ◌⊎◌, List, [], ◌∷◌, ◌++◌, length, sym, refl, ap, ◌∙◌, inl, inr, arith}
 use mathlib.Core.Path.{fun_ext}
-use Rattle.std.specs.List.{AllByRecursion as All}
+use Rattle.std.specs.List.{AllByRecursion}
 use Rattle.std.proofs.lemmas.List.{append-nil}
 use Rattle.std.proofs.ByRecursion.{All-append}
 use Rattle.std.proofs.lemmas.Bool.{cases_lt, cases_Bool, both_ways, cond-true, cond-false, and_from, and_parts, not-true, not_from_false, or_from, or_parts, le-leb, lt-ltb, leb-true, ltb-true}
@@ -57,7 +57,7 @@ pub covers_on : {K : Kind} (p : Pulse K) (d : ℕ) → p.first ≤ d → d < p.f
 unfolding covers
 covers_on p d h l = and_from _ _ (le-leb _ _ h) (lt-ltb _ _ l)
 
-pub all_in_turn : {A : Type 0} (Q : A → Type 0) (n : ℕ) (f : ℕ → List A) → ((c : ℕ) → All Q (f (suc c))) → All Q (in_turn n f)
+pub all_in_turn : {A : Type 0} (Q : A → Type 0) (n : ℕ) (f : ℕ → List A) → ((c : ℕ) → AllByRecursion Q (f (suc c))) → AllByRecursion Q (in_turn n f)
 unfolding in_turn
 all_in_turn Q zero f h = tt
 all_in_turn Q (suc n) f h = All-append Q (in_turn n f) (f (suc n)) (all_in_turn Q n f h) (h n)
@@ -128,7 +128,7 @@ module _ (K : Kind) (O : Lawful K) (lt : Of K → Of K → Bool) (n : ℕ) (b a 
   ]
 
   -- each pulse of the listing covers n days, within the record, with one amount
-  pub changes_regular : All (λ p. Regular K (length b) n (trace K b) (trace K a) p × (lt (nought K.arity) p.amount ≡ true)) (changes K b a)
+  pub changes_regular : AllByRecursion (λ p. Regular K (length b) n (trace K b) (trace K a) p × (lt (nought K.arity) p.amount ≡ true)) (changes K b a)
   unfolding changes
   changes_regular = all_in_turn _ (length b) (change K b a) (λ c. elim (change_is c) [
     | inl (B, e) ↦ rw e (

@@ -1,7 +1,7 @@
 -- How large amounts, sums of pulses and swings can be: so many times the entry bounds.
 use Rattle.std.proofs.Common.{◌≡◌, ℕ, zero, suc, ◌+◌, ◌-◌, ◌*◌, ◌≤◌, Bool, true, cond, leb, List, [], ◌∷◌, length, get_or, ℤ, ◌+ℤ◌, ◌-ℤ◌, nat_abs, inl, inr, mul-le-mul_right, arith}
 use lib.Dec.{leb-zero}
-use Rattle.std.specs.List.{AllByRecursion as All}
+use Rattle.std.specs.List.{AllByRecursion}
 use Rattle.std.proofs.lemmas.List.{get_or_past}
 use Rattle.std.proofs.ByRecursion.{All-get_or, All-weaker}
 use Rattle.std.proofs.lemmas.Int.{ints}
@@ -19,7 +19,7 @@ unfolding numbered
 length_numbered [] m = omega arith
 length_numbered (a ∷ rest) m = let h = length_numbered rest (λ k. m (suc k)) in elim (cases_Bool (m 0)) [ inl e ↦ rw e (omega arith) | inr e ↦ rw e (omega arith) ]
 
-all_numbered : {A : Type 0} (P : A → Type 0) (xs : List A) (m : ℕ → Bool) → All P xs → All P (numbered m xs)
+all_numbered : {A : Type 0} (P : A → Type 0) (xs : List A) (m : ℕ → Bool) → AllByRecursion P xs → AllByRecursion P (numbered m xs)
 unfolding numbered
 all_numbered P [] m h = tt
 all_numbered P (a ∷ rest) m h =
@@ -74,7 +74,7 @@ module _ (K : Kind) (O : Lawful K) where
       (λ _. up_to_more K.arity K.bound (0 + c) c (minus K.arity (nought K.arity) x) (omega arith) (up_to_minus K.arity K.bound 0 c (nought K.arity) x (zero_up_to 0) h)) (λ _. h)
 
   -- the sum of pulses whose amounts are up to c times the bound, and a sum over days
-  pub standing_up_to : (c : ℕ) (ps : List (Pulse K)) (d : ℕ) → All (λ p. UpTo K.arity K.bound c p.amount) ps → UpTo K.arity K.bound (length ps * c) (standing K ps d)
+  pub standing_up_to : (c : ℕ) (ps : List (Pulse K)) (d : ℕ) → AllByRecursion (λ p. UpTo K.arity K.bound c p.amount) ps → UpTo K.arity K.bound (length ps * c) (standing K ps d)
   unfolding standing
   standing_up_to c [] d h = zero_up_to (0 * c)
   standing_up_to c (p ∷ ps) d h =
@@ -94,7 +94,7 @@ module _ (K : Kind) (O : Lawful K) where
   unfolding swing
   swing_up_to c n x h = summed_up_to (c + c) (n + 1) _ (λ d. size_up_to (c + c) (minus K.arity (x d) (x (d - 1))) (up_to_minus K.arity K.bound c c (x d) (x (d - 1)) (h d) (h (d - 1))))
 
-  pub trace_up_to : (xs : Record K) → All (λ x. within K.arity K.bound x ≡ true) xs → (d : ℕ) → UpTo K.arity K.bound 1 (trace K xs d)
+  pub trace_up_to : (xs : Record K) → AllByRecursion (λ x. within K.arity K.bound x ≡ true) xs → (d : ℕ) → UpTo K.arity K.bound 1 (trace K xs d)
   unfolding trace
   trace_up_to xs h zero = zero_up_to 1
   trace_up_to xs h (suc d) = elim (cases_lt d (length xs)) [
@@ -102,9 +102,9 @@ module _ (K : Kind) (O : Lawful K) where
     | inr l ↦ rw (get_or_past xs d (nought K.arity) l) (zero_up_to 1)
   ]
 
-  module _ (xs : Record K) (entered : All (λ x. within K.arity K.bound x ≡ true) xs) where
+  module _ (xs : Record K) (entered : AllByRecursion (λ x. within K.arity K.bound x ≡ true) xs) where
     -- amounts are up to twice the bounds,
-    pub amounts_up_to : All (λ p. UpTo K.arity K.bound 2 p.amount) (pulses K xs)
+    pub amounts_up_to : AllByRecursion (λ p. UpTo K.arity K.bound 2 p.amount) (pulses K xs)
     amounts_up_to =
         All-weaker _ _ (λ p (a, b, i, j, e). rw e (up_to_minus K.arity K.bound 1 1 a b i j)) _
         (pulses_among K O (λ v. UpTo K.arity K.bound 1 v) xs (trace_up_to xs entered))
@@ -121,7 +121,7 @@ module _ (K : Kind) (O : Lawful K) where
       room c x i k = O.roomy x (up_to_more K.arity K.bound c 5000000 x i k)
 
       -- so in a record of up to 1,000 days that may be entered every amount, every sum of some of the pulses and its swing is a value
-      pub amounts_in_range : All (λ p. K.has p.amount ≡ true) (pulses K xs)
+      pub amounts_in_range : AllByRecursion (λ p. K.has p.amount ≡ true) (pulses K xs)
       amounts_in_range = All-weaker _ _ (λ p h. room 2 p.amount (omega arith) h) _ amounts_up_to
 
       pub sums_in_range : (m : ℕ → Bool) (d : ℕ) → K.has (standing K (numbered m (pulses K xs)) d) ≡ true
@@ -132,8 +132,8 @@ module _ (K : Kind) (O : Lawful K) where
           room ((length xs + 1) * (2000 + 2000)) _ (omega arith)
           (swing_up_to 2000 (length xs) _ (λ d. up_to_more K.arity K.bound (length xs * 2) 2000 _ (omega arith) (numbered_up_to m d)))
 
-  pub in_range : (xs : Record K) → length xs ≤ 1000 → All (λ x. within K.arity K.bound x ≡ true) xs →
-      All (λ p. K.has p.amount ≡ true) (pulses K xs) ×
+  pub in_range : (xs : Record K) → length xs ≤ 1000 → AllByRecursion (λ x. within K.arity K.bound x ≡ true) xs →
+      AllByRecursion (λ p. K.has p.amount ≡ true) (pulses K xs) ×
       ((keep : Pulse K → Bool) → ((d : ℕ) → K.has (standing K (chosen keep (pulses K xs)) d) ≡ true) × (K.has (swing K (length xs) (standing K (chosen keep (pulses K xs)))) ≡ true))
   in_range xs l h = (
     amounts_in_range xs h l,

@@ -1,6 +1,6 @@
 -- The pulses of a record, width by width.
 use Rattle.std.proofs.Common.{◌≡◌, ℕ, zero, suc, ◌+◌, ◌-◌, ◌≤◌, Bool, true, false, ltb, List, [], ◌∷◌, ◌++◌, length, sym, refl, ap, ◌∙◌, subst, inl, inr, arith}
-use Rattle.std.specs.List.{AllByRecursion as All}
+use Rattle.std.specs.List.{AllByRecursion}
 use Rattle.std.proofs.ByRecursion.{All-append, All-weaker}
 use Rattle.std.proofs.lemmas.Bool.{cases_lt, cases_Bool, cond-true, cond-false, lt-ltb, le-ltb}
 use Rattle.kinds.specs.Columns.{nought, plus}
@@ -45,21 +45,21 @@ module _ (K : Kind) (O : Lawful K) (xs : Record K) (n : ℕ) where
   pub stage_level : Levels K (trace K (smooth K n xs)) (stage K xs (suc n)) (trace K (smooth K (suc n) xs))
   stage_level = levels_append K (upward K xs (suc n)) (downward K xs (suc n)) _ _ _ upward_level downward_level
 
-  pub upward_regular : All (λ p. Regular K (length xs) (suc n) (trace K (smooth K n xs)) (trace K (lowered K (suc n) (smooth K n xs))) p × Below K (nought K.arity) p.amount) (upward K xs (suc n))
+  pub upward_regular : AllByRecursion (λ p. Regular K (length xs) (suc n) (trace K (smooth K n xs)) (trace K (lowered K (suc n) (smooth K n xs))) p × Below K (nought K.arity) p.amount) (upward K xs (suc n))
   unfolding upward
   upward_regular =
-      subst (λ m. All (λ p. Regular K m (suc n) (trace K (smooth K n xs)) (trace K (lowered K (suc n) (smooth K n xs))) p × Below K (nought K.arity) p.amount) (upward K xs (suc n)))
+      subst (λ m. AllByRecursion (λ p. Regular K m (suc n) (trace K (smooth K n xs)) (trace K (lowered K (suc n) (smooth K n xs))) p × Below K (nought K.arity) p.amount) (upward K xs (suc n)))
       (length_smooth K O n xs)
       (changes_regular K O K.below (suc n) _ _ upward_pass)
 
-  pub downward_regular : All (λ p. Regular K (length xs) (suc n) (trace K (lowered K (suc n) (smooth K n xs))) (trace K (smooth K (suc n) xs)) p × Below K p.amount (nought K.arity)) (downward K xs (suc n))
+  pub downward_regular : AllByRecursion (λ p. Regular K (length xs) (suc n) (trace K (lowered K (suc n) (smooth K n xs))) (trace K (smooth K (suc n) xs)) p × Below K p.amount (nought K.arity)) (downward K xs (suc n))
   unfolding downward
   downward_regular =
-      subst (λ m. All (λ p. Regular K m (suc n) (trace K (lowered K (suc n) (smooth K n xs))) (trace K (smooth K (suc n) xs)) p × Below K p.amount (nought K.arity)) (downward K xs (suc n)))
+      subst (λ m. AllByRecursion (λ p. Regular K m (suc n) (trace K (lowered K (suc n) (smooth K n xs))) (trace K (smooth K (suc n) xs)) p × Below K p.amount (nought K.arity)) (downward K xs (suc n)))
       (length_lowered K O (suc n) (smooth K n xs) ∙ length_smooth K O n xs)
       (changes_regular K O (turned K).below (suc n) _ _ downward_pass)
 
-  pub stage_width : All (λ p. p.width ≡ suc n) (stage K xs (suc n))
+  pub stage_width : AllByRecursion (λ p. p.width ≡ suc n) (stage K xs (suc n))
   stage_width = All-append _ (upward K xs (suc n)) (downward K xs (suc n)) (All-weaker _ _ (λ p h. h.0.wide) _ upward_regular) (All-weaker _ _ (λ p h. h.0.wide) _ downward_regular)
 
 -- what is chosen of two lists one after the other, of a list all of which is chosen, or none
@@ -68,12 +68,12 @@ unfolding chosen
 chosen_append test [] qs = refl
 chosen_append test (p ∷ ps) qs = elim (cases_Bool (test p)) [ inl e ↦ rw (e, chosen_append test ps qs) | inr e ↦ rw (e, chosen_append test ps qs) ]
 
-pub chosen_all : {A : Type 0} (test : A → Bool) (ps : List A) → All (λ p. test p ≡ true) ps → chosen test ps ≡ ps
+pub chosen_all : {A : Type 0} (test : A → Bool) (ps : List A) → AllByRecursion (λ p. test p ≡ true) ps → chosen test ps ≡ ps
 unfolding chosen
 chosen_all test [] h = refl
 chosen_all test (p ∷ ps) h = cond-true _ _ _ h.0 ∙ ap (λ l. p ∷ l) (chosen_all test ps h.1)
 
-pub chosen_none : {A : Type 0} (test : A → Bool) (ps : List A) → All (λ p. test p ≡ false) ps → chosen test ps ≡ []
+pub chosen_none : {A : Type 0} (test : A → Bool) (ps : List A) → AllByRecursion (λ p. test p ≡ false) ps → chosen test ps ≡ []
 unfolding chosen
 chosen_none test [] h = refl
 chosen_none test (p ∷ ps) h = cond-false _ _ _ h.0 ∙ chosen_none test ps h.1

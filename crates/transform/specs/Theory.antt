@@ -1,6 +1,6 @@
 -- What is true of the pulses of every record of every lawful kind.
 use Rattle.std.specs.Prelude.{◌≡◌, ℕ, suc, ◌+◌, ◌<◌, ◌≤◌, Bool, true, not, ◌↔◌, List, [], ◌∷◌, length, ◌≢◌, nat_lt}
-use Rattle.std.specs.List.{ContainsAt as Has, AllByRecursion as All}
+use Rattle.std.specs.List.{ContainsAt as Has, AllByRecursion}
 use Rattle.kinds.specs.Columns.{nought, plus, minus, within}
 use Rattle.kinds.specs.Kinds.{Kind, Of, Lawful}
 use Rattle.transform.specs.Windows.{Record, Trace, trace, higher, L, U, lowered, smooth}
@@ -35,10 +35,10 @@ pub record Regular (K : Kind) (days n : ℕ) (before after : Trace K) (p : Pulse
 abbrev pub WidthsAndAmounts : Type 0
 WidthsAndAmounts =
     (K : Kind) → Lawful K → (xs : Record K) (n : ℕ) →
-    All
+    AllByRecursion
     (λ p. Regular K (length xs) (suc n) (trace K (smooth K n xs)) (trace K (lowered K (suc n) (smooth K n xs))) p × (K.below (nought K.arity) p.amount ≡ true))
     (upward K xs (suc n)) ×
-    All
+    AllByRecursion
     (λ p. Regular K (length xs) (suc n) (trace K (lowered K (suc n) (smooth K n xs))) (trace K (smooth K (suc n) xs)) p × (K.below p.amount (nought K.arity) ≡ true))
     (downward K xs (suc n))
 
@@ -65,7 +65,7 @@ DifferentChoicesDiffer =
 -- each element of the list is in the relation to every later one
 abbrev pub EachLater : {A : Type 0} → (A → A → Type 0) → List A → Type 0
 EachLater R [] = Unit {0}
-EachLater R (a ∷ rest) = All (R a) rest × EachLater R rest
+EachLater R (a ∷ rest) = AllByRecursion (R a) rest × EachLater R rest
 
 -- no two pulses of the list cover the same days
 abbrev pub PulsesHaveDaysOfTheirOwn : Type 0
@@ -83,8 +83,8 @@ SwingsBalance =
 -- the pulses and the swing of such a sum is a value of the kind
 abbrev pub SumsStayInRange : Type 0
 SumsStayInRange =
-    (K : Kind) → Lawful K → (xs : Record K) → length xs ≤ 1000 → All (λ x. within K.arity K.bound x ≡ true) xs →
-    All (λ p. K.has p.amount ≡ true) (pulses K xs) ×
+    (K : Kind) → Lawful K → (xs : Record K) → length xs ≤ 1000 → AllByRecursion (λ x. within K.arity K.bound x ≡ true) xs →
+    AllByRecursion (λ p. K.has p.amount ≡ true) (pulses K xs) ×
     ((keep : Pulse K → Bool) →
     ((d : ℕ) → K.has (standing K (chosen keep (pulses K xs)) d) ≡ true) × (K.has (swing K (length xs) (standing K (chosen keep (pulses K xs)))) ≡ true))
 

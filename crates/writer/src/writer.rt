@@ -145,11 +145,14 @@ impl Naming {
         }
     }
 
-    // No line of values stands before the names line, so nothing can call this.
+    // No line of values stands before the names line: no text in this state has it written, so
+    // nothing can call this. It would write nothing and hand the state back.
     pub fn line(self, values: &[Value], out: &mut [u8]) -> Result<Lines, Short<Naming>>
-        requires { WriteTheNamesFirst }
+        requires { WriteTheNamesFirst self }
+        ensures kept { out.new ≡ out.old }
+        ensures back { told (λ s. s.at) (λ e. e.state.at) result ≡ Err self.at }
     {
-        unreachable()
+        Err(Short { state: self })
     }
 }
 
@@ -181,10 +184,13 @@ impl Ended {
         *at
     }
 
-    // No line stands behind the end of a text, so nothing can call this.
+    // No line stands behind the end of a text: no text that has ended is empty, so nothing can call
+    // this. It would write nothing and hand the state back.
     pub fn line(self, values: &[Value], out: &mut [u8]) -> Result<Lines, Short<Ended>>
-        requires { BeginAnotherText }
+        requires { BeginAnotherText self }
+        ensures kept { out.new ≡ out.old }
+        ensures back { told (λ s. s.at) (λ e. e.state.at) result ≡ Err self.at }
     {
-        unreachable()
+        Err(Short { state: self })
     }
 }

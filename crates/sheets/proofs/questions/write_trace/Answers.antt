@@ -19,5 +19,7 @@ loop-day-preserved g c =
 pub returns-in-Err : goal.returns-in-Err
 returns-in-Err g c =
     let s = state_of g.S.Shelf.slots g.S.Shelf.outside c.args.sheet.now in
+    let stopped =
     trace_stops g.K.Total.kind g.K.Total.columns s c.loop-day.day c.args.totals.now c.loop-day.totals
-    (standing_total g.K.Total.kind s (c.loop-day.day + 1)) c.in-Err.stop (omega arith) c.loop-day.invariant.0 c.loop-day.invariant.1 c.in-Err.ensures
+    (standing_total g.K.Total.kind s (c.loop-day.day + 1)) c.in-Err.stop (omega arith) c.loop-day.invariant.0 c.loop-day.invariant.1 c.in-Err.ensures in
+    record { answer = stopped.0; filled = stopped.1 }
