@@ -5,3 +5,4 @@ mod LengthFacts
 mod ReportFacts
 mod TellFacts
 mod SplitFacts
+mod ShortFacts

@@ -17,8 +17,9 @@ use Rattle.refusals.specs.declared.fault.NotWritten.{NotWritten}
 use Rattle.refusals.specs.Faults.{in_taking, in_writing}
 use Rattle.reading.specs.Traces.{read_text}
 use Rattle.report.specs.PulseTexts.{pulse_text, sheet_text, TextWritten}
-use Rattle.report.specs.Reports.{told, report_as, Reported, refusal_in, RecordTaken, TextDue, PulsesWritten}
+use Rattle.report.specs.Reports.{told, report_as, Reported, refusal_in, RecordTaken, TextDue, OfWriting, PulsesWritten, OfReport}
 use Rattle.report.proofs.ReadFacts.{Fair, Fit, text_fair}
+use Rattle.report.proofs.ShortFacts.{only_14}
 use Rattle.report.proofs.TakeFacts.{accepted, taken_text}
 
 -- the results behind those that carry a fault up
@@ -45,7 +46,7 @@ take_stop K xs entries before after s t w v Unreachable T = absurd T
 
 pub write_stop : (K : Kind) (s : State) (before after : List ℕ) (stop : Stop) → ((h : Calls K) × Shows K h s) → TextWritten K s before after (Err stop) → Reported (sheet_text K s) before after (Err (refusal_in stop))
 write_stop K s before after (Refused r) H T = T
-write_stop K s before after Unreachable (h, S) T = absurd (T.0 h S)
+write_stop K s before after Unreachable (h, S) T = absurd (T h S)
 
 -- a record that is accepted is taken, and the history goes on
 module _ (K : Kind) (xs : Record K) (entries : ℕ) (before after : State) (x : Result ℕ Refusal) (T : RecordTaken K xs entries before after x) where
@@ -68,9 +69,10 @@ module _ (K : Kind) (xs : Record K) (entries : ℕ) (before after : State) (x : 
 
   pub due_err : (n : ℕ) → Ok n ≡ in_taking x → (out end : List ℕ) (y : Result ℕ Refusal) (w : NotWritten) → Reported (sheet_text K after) out end y → Err w ≡ in_writing y →
       TextDue (pulse_text K (λ p. false) (pulses K xs)) out end (Err (Writing w.refusal))
-  due_err n e out end y w R f =
-      let (r, W) = subst (Reported (pulse_text K (λ p. false) (pulses K xs)) out end) (written_err y w (sym f)) (due n e out end y R) in
-      (ap Writing r, W)
+  due_err n e out end y w R f = subst (Reported (pulse_text K (λ p. false) (pulses K xs)) out end) (written_err y w (sym f)) (due n e out end y R)
+
+  pub due_fault : (bytes out end : List ℕ) (y : Result ℕ Refusal) (w : NotWritten) → Reported bytes out end y → Err w ≡ in_writing y → OfWriting (Err (Writing w.refusal))
+  due_fault bytes out end y w R f = ap Writing (only_14 w.refusal (subst (Reported bytes out end) (written_err y w (sym f)) R).0)
 
 -- a record that was read
 module _ (K : Kind) (text : List ℕ) (room : ℕ) (xs : Record K) (full : room ≡ 1000) (read : read_text K room text ≡ Ok xs) where
@@ -90,3 +92,7 @@ module _ (K : Kind) (text : List ℕ) (room : ℕ) (xs : Record K) (full : room 
   pub pulses_written : (out end : List ℕ) (r : Result ℕ FileFault) → TextDue (pulse_text K (λ p. false) (pulses K xs)) out end r → PulsesWritten K text out end r
   pulses_written out end (Ok n) w = subst (λ bs. TextDue bs out end (Ok n)) text_is w
   pulses_written out end (Err fault) w = inl (subst (λ bs. TextDue bs out end (Err fault)) text_is w)
+
+pub fault_told : (r : Result ℕ FileFault) → OfWriting r → OfReport r
+fault_told (Ok n) w = tt
+fault_told (Err fault) w = inl w

@@ -13,8 +13,9 @@ use Rattle.refusals.specs.Faults.{found, refusal_of}
 use Rattle.reading.specs.Parts.{reach, holds, fields, under, field_under}
 use Rattle.reading.specs.Traces.{among, read_text}
 use Rattle.reading.proofs.PartFacts.{reach_le}
-use Rattle.report.specs.Reports.{first_line, names_pieces, told, report_as, report_of, most_bytes, Reported, PulsesWritten, Told}
+use Rattle.report.specs.Reports.{first_line, names_pieces, told, report_as, report_of, most_bytes, Reported, ShortAlone, PulsesWritten, Told}
 use Rattle.report.proofs.ReadFacts.{Fair, Fit, text_fair}
+use Rattle.report.proofs.ShortFacts.{only_14}
 use Rattle.report.proofs.ReportFacts.{reports_fit}
 
 eqb_turned : (m n : ℕ) → eqb m n ≡ eqb n m
@@ -61,10 +62,8 @@ not_short K text fault e n = let f = subst (Fair 40002 (Fit K 1000)) e (text_fai
 pub reported : (K : Kind) (text before now after : List ℕ) (p : Result ℕ FileFault) (r : Result ℕ Refusal) → PulsesWritten K text before now p → Told p now after r → Reported (report_as K text) before after r
 unfolding report_as
 reported K text before now after (Ok n) r w (a, e) = rw (a, e) w
-reported K text before now after (Err fault) r (inl (n, w)) t =
-    let (a, e) = t.0 (ap (λ (f : FileFault). number (refusal_of f)) n) in
-    rw (a, e) (ap refusal_of n, w)
-reported K text before now after (Err fault) r (inr (a, e, _)) t =
+reported K text before now after (Err fault) r (inl (n, w)) t = let (a, e) = t.0 n in rw (a, e) (n, w)
+reported K text before now after (Err fault) r (inr (a, e)) t =
     subst (λ bs. Reported (told K (read_text K 1000 text)) bs after r) a
     (subst (λ x. Reported (told K x) now after r) (sym e) (t.1 (not_short K text fault e)))
 
@@ -84,3 +83,7 @@ report_same bytes due before after r e w = subst (λ bs. Reported bs before afte
 pub never_short : (text before after : List ℕ) (r : Result ℕ Refusal) → Reported (report_of text) before after r → most_bytes ≤ length before → is_ok r ≡ true
 never_short text before after (Ok n) w h = refl
 never_short text before after (Err e) w h = absurd (omega (arith, reports_fit text, w.1.1))
+
+pub short_alone : (bytes before after : List ℕ) (r : Result ℕ Refusal) → Reported bytes before after r → ShortAlone r
+short_alone bytes before after (Ok n) w = tt
+short_alone bytes before after (Err e) w = only_14 e w.0

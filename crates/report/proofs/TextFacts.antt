@@ -18,7 +18,8 @@ use Rattle.writing.specs.Texts.{pulse_names, pulse_values}
 use Rattle.writer.specs.Values.{line, shown}
 use Rattle.writer.specs.Written.{pasted}
 use Rattle.writer.proofs.WrittenFacts.{pasted_none, pasted_append}
-use Rattle.report.specs.PulseTexts.{CutShort, state, pulse_line, pulse_lines, row_line, slot_line, row_lines, sheet_text, TextWritten, TextTold, RoomLeft, PartWritten}
+use Rattle.report.proofs.ShortFacts.{only_14}
+use Rattle.report.specs.PulseTexts.{CutShort, Stopped, state, pulse_line, pulse_lines, row_line, slot_line, row_lines, sheet_text, TextWritten, TextTold, RoomLeft, PartWritten}
 
 pub unlisted_listed : (a : Arity) (x : Columns a) → unlisted a (listed a x) ≡ x
 unlisted_listed one x = refl
@@ -51,7 +52,7 @@ cut_more start at a b c before now after l e f k = record {
   written = k.written ∙ (ap (λ n. pasted n k.part now) f ∙ (ap (pasted (start + length a) k.part) e ∙ pasted_append start a k.part before l));
 }
 
-pub part_stop : {V : Type 0} (K : Kind) (columns : V → Of K) (s : State) (n at : ℕ) (bytes out : List ℕ) (stop : Stop) → 1 ≤ n → n ≤ s.count → Listed K columns s n (Err stop) → PartWritten K s at bytes out out (Err stop)
+pub part_stop : {V : Type 0} (K : Kind) (columns : V → Of K) (s : State) (n at : ℕ) (bytes out : List ℕ) (stop : Stop) → 1 ≤ n → n ≤ s.count → Listed K columns s n (Err stop) → PartWritten K s at bytes out out (Err stop) × Stopped at bytes out out (Err stop)
 part_stop K columns s n at bytes out (Refused r) l h (e, inl z) = absurd (omega arith)
 part_stop K columns s n at bytes out (Refused r) l h (e, inr z) = absurd (omega arith)
 part_stop K columns s n at bytes out Unreachable l h u = (u, cut_none at bytes out)
@@ -93,9 +94,10 @@ rows_rest K slots i (suc j) =
 -- lines that stop at a slot, behind those that are written
 pub lines_stop : (K : Kind) (s : State) (slot start at : ℕ) (before now after : List ℕ) (stop : Stop) → slot < s.count → start ≤ length before →
     now ≡ pasted start (row_lines K slot s.slots) before → at ≡ start + length (row_lines K slot s.slots) →
-    PartWritten K s at (slot_line K s.slots (slot + 1)) now after (Err stop) → PartWritten K s start (row_lines K s.count s.slots) before after (Err stop)
-lines_stop K s slot start at before now after (Refused r) h l e f w = absurd w
-lines_stop K s slot start at before now after Unreachable h l e f (u, k) =
+    PartWritten K s at (slot_line K s.slots (slot + 1)) now after (Err stop) → Stopped at (slot_line K s.slots (slot + 1)) now after (Err stop) →
+    PartWritten K s start (row_lines K s.count s.slots) before after (Err stop) × Stopped start (row_lines K s.count s.slots) before after (Err stop)
+lines_stop K s slot start at before now after (Refused r) h l e f w k = absurd w
+lines_stop K s slot start at before now after Unreachable h l e f u k =
     let (rest, q) = rows_rest K s.slots (slot + 1) (s.count - (slot + 1)) in
     let m : (slot + 1) + (s.count - (slot + 1)) ≡ s.count = omega arith in
     let whole : row_lines K slot s.slots ++ (slot_line K s.slots (slot + 1) ++ rest) ≡ row_lines K s.count s.slots =
@@ -105,9 +107,10 @@ lines_stop K s slot start at before now after Unreachable h l e f (u, k) =
 -- the same behind the names line
 pub whole_stop : (K : Kind) (s : State) (start at : ℕ) (before now after : List ℕ) (stop : Stop) → start ≡ 0 →
     now ≡ pasted start (line letters (pulse_names K)) before → at ≡ start + length (line letters (pulse_names K)) →
-    PartWritten K s at (row_lines K s.count s.slots) now after (Err stop) → PartWritten K s 0 (sheet_text K s) before after (Err stop)
-whole_stop K s start at before now after (Refused r) z e f w = absurd w
-whole_stop K s start at before now after Unreachable z e f (u, k) = (
+    PartWritten K s at (row_lines K s.count s.slots) now after (Err stop) → Stopped at (row_lines K s.count s.slots) now after (Err stop) →
+    PartWritten K s 0 (sheet_text K s) before after (Err stop) × Stopped 0 (sheet_text K s) before after (Err stop)
+whole_stop K s start at before now after (Refused r) z e f w k = absurd w
+whole_stop K s start at before now after Unreachable z e f u k = (
   u,
   subst (λ bytes. CutShort 0 bytes before after) (ap (λ b. line letters (pulse_names K) ++ b) (append-nil (row_lines K s.count s.slots)))
       (cut_more 0 at (line letters (pulse_names K)) (row_lines K s.count s.slots) [] before now after (omega arith) (e ∙ ap (λ n. pasted n (line letters (pulse_names K)) before) z) (omega arith) k),
@@ -146,13 +149,14 @@ pub line_written : (at end : ℕ) (due bytes before after : List ℕ) → due �
 line_written at end due bytes before after e a b = (a ∙ ap (λ bs. pasted at bs before) (sym e), b ∙ ap (λ bs. at + length bs) (sym e))
 
 -- a text that has room is written, and one that has none is not
-pub text_in : (K : Kind) (s : State) (left : ℕ) (before after : List ℕ) (r : Result ℕ Stop) → length before ≡ length (sheet_text K s) + left → PartWritten K s 0 (sheet_text K s) before after r → TextWritten K s before after r
-text_in K s left before after (Ok n) e (w, l) = (w, l, omega arith)
-text_in K s left before after (Err (Refused r)) e h = absurd h
-text_in K s left before after (Err Unreachable) e u = u
+pub text_in : (K : Kind) (s : State) (left : ℕ) (before after : List ℕ) (r : Result ℕ Stop) → length before ≡ length (sheet_text K s) + left → PartWritten K s 0 (sheet_text K s) before after r → Stopped 0 (sheet_text K s) before after r →
+    TextWritten K s before after r × Stopped 0 (sheet_text K s) before after r
+text_in K s left before after (Ok n) e (w, l) k = ((w, l, omega arith), tt)
+text_in K s left before after (Err (Refused r)) e h k = absurd h
+text_in K s left before after (Err Unreachable) e u k = (u, k)
 
-pub text_out : (K : Kind) (s : State) (out : List ℕ) (stop : Stop) → RoomLeft K s (length (sheet_text K s)) (length out) (Err stop) → TextWritten K s out out (Err stop)
-text_out K s out (Refused r) (n, l) = (n, (refl, omega arith))
+pub text_out : (K : Kind) (s : State) (out : List ℕ) (stop : Stop) → RoomLeft K s (length (sheet_text K s)) (length out) (Err stop) → TextWritten K s out out (Err stop) × Stopped 0 (sheet_text K s) out out (Err stop)
+text_out K s out (Refused r) (n, l) = ((n, (refl, omega arith)), only_14 r n)
 text_out K s out Unreachable u = (u, cut_none 0 (sheet_text K s) out)
 
 -- the lines of the rows are those of the pulses
@@ -203,7 +207,7 @@ module _ (K : Kind) (slots : List (Option Entry)) (out : Pulse K → Bool) (ps :
 strays_never : (K : Kind) (h : Calls K) (s : State) (before after : List ℕ) (r : Result ℕ Stop) → Shows K h s → TextWritten K s before after r → Strays r → ⊥
 strays_never K h s before after (Ok n) S w t = t
 strays_never K h s before after (Err (Refused r)) S w t = t
-strays_never K h s before after (Err Unreachable) S w t = w.0 h S
+strays_never K h s before after (Err Unreachable) S w t = w h S
 
 pub text_told : (K : Kind) (s : State) (before after : List ℕ) (r : Result ℕ Stop) → TextWritten K s before after r → TextTold K s r
 text_told K s before after r w h S = (

@@ -3,6 +3,7 @@ use Rattle.std.specs.Prelude.{◌≡◌, ℕ, zero, suc, ◌+◌, ◌-◌, ◌<�
 use Rattle.std.specs.List.{ContainsAt as Has}
 use Rattle.kinds.specs.Kinds.{Kind}
 use Rattle.refusals.specs.declared.refusal.Refusal.TheVariants.{OutputTooShort}
+use Rattle.refusals.specs.Table.{number}
 use Rattle.shelves.specs.Slots.{Entry}
 use Rattle.transform.specs.Windows.{Record}
 use Rattle.transform.specs.Pulses.{Pulse, pulses}
@@ -62,12 +63,18 @@ pub record CutShort (at : ℕ) (bytes before after : List ℕ) : Type 0 where
   pub written : after ≡ pasted at part before
 
 -- What writing it into a buffer answers: the bytes written, and those past them stay; or 14, exactly
--- where the buffer is too short for them, and it stays as it was; or no list of calls leads here, and
--- the text is cut short.
+-- where the buffer is too short for them, and it stays as it was; or no list of calls leads here.
 abbrev pub TextWritten : (K : Kind) → State → List ℕ → List ℕ → Result ℕ Stop → Type 0
 TextWritten K s before after (Ok n) = Writes 0 (sheet_text K s) before after (Some n)
-TextWritten K s before after (Err (Refused r)) = (r ≡ OutputTooShort) × Writes 0 (sheet_text K s) before after None
-TextWritten K s before after (Err Unreachable) = Unled K s × CutShort 0 (sheet_text K s) before after
+TextWritten K s before after (Err (Refused r)) = (number r ≡ 14) × Writes 0 (sheet_text K s) before after None
+TextWritten K s before after (Err Unreachable) = Unled K s
+
+-- what is known of a stop while bytes are written from place `at` on: the one refusal is that the
+-- buffer is too short, and where no list of calls leads, the bytes are cut short
+abbrev pub Stopped : ℕ → List ℕ → List ℕ → List ℕ → Result ℕ Stop → Type 0
+Stopped at bytes before after (Ok n) = Unit {0}
+Stopped at bytes before after (Err (Refused r)) = r ≡ OutputTooShort
+Stopped at bytes before after (Err Unreachable) = CutShort at bytes before after
 
 -- the text is that of the pulses of the record held after the calls h, on a shelf of so many slots,
 -- with the state of each
@@ -85,11 +92,11 @@ TextTold K s r = (h : Calls K) → Shows K h s → Tells K h (length s.slots) (s
 -- what is left of a room behind so many bytes of the text, or 14 where it is too small
 abbrev pub RoomLeft : (K : Kind) → State → ℕ → ℕ → Result ℕ Stop → Type 0
 RoomLeft K s bytes room (Ok left) = room ≡ bytes + left
-RoomLeft K s bytes room (Err (Refused r)) = (r ≡ OutputTooShort) × (room < bytes)
+RoomLeft K s bytes room (Err (Refused r)) = (number r ≡ 14) × (room < bytes)
 RoomLeft K s bytes room (Err Unreachable) = Unled K s
 
 -- a part of the text that has room, written from place `at` on; the answer is the place behind it
 abbrev pub PartWritten : (K : Kind) → State → ℕ → List ℕ → List ℕ → List ℕ → Result ℕ Stop → Type 0
 PartWritten K s at bytes before after (Ok end) = (after ≡ pasted at bytes before) × (end ≡ at + length bytes)
 PartWritten K s at bytes before after (Err (Refused r)) = ⊥
-PartWritten K s at bytes before after (Err Unreachable) = Unled K s × CutShort at bytes before after
+PartWritten K s at bytes before after (Err Unreachable) = Unled K s

@@ -49,7 +49,12 @@ report_of text = cond (names_pieces text) (report_as mobile text) (report_as pap
 -- buffer is too short for the bytes due, and it stays as it was.
 abbrev pub Reported : List ℕ → List ℕ → List ℕ → Result ℕ Refusal → Type 0
 Reported bytes before after (Ok n) = Writes 0 bytes before after (Some n)
-Reported bytes before after (Err r) = (r ≡ OutputTooShort) × Writes 0 bytes before after None
+Reported bytes before after (Err r) = (number r ≡ 14) × Writes 0 bytes before after None
+
+-- the one refusal of a report is that the buffer is too short
+abbrev pub ShortAlone : Result ℕ Refusal → Type 0
+ShortAlone (Ok n) = Unit {0}
+ShortAlone (Err r) = r ≡ OutputTooShort
 
 -- the bytes of the longest report
 abbrev pub most_bytes : ℕ
@@ -74,15 +79,25 @@ RecordTaken K xs entries before after (Err r) = Ground K xs entries (length befo
 -- bytes that are due are written, or the buffer is too short for them
 abbrev pub TextDue : List ℕ → List ℕ → List ℕ → Result ℕ FileFault → Type 0
 TextDue bytes before after (Ok n) = Writes 0 bytes before after (Some n)
-TextDue bytes before after (Err fault) = (fault ≡ Writing OutputTooShort) × Writes 0 bytes before after None
+TextDue bytes before after (Err fault) = (number (refusal_of fault) ≡ 14) × Writes 0 bytes before after None
+
+-- the one fault of writing is that the buffer is too short
+abbrev pub OfWriting : Result ℕ FileFault → Type 0
+OfWriting (Ok n) = Unit {0}
+OfWriting (Err fault) = fault ≡ Writing OutputTooShort
 
 -- What comes of a text of totals of a kind before a refusal is told: its pulses are written, or the
 -- buffer is too short for them, or the text was not read.
 abbrev pub PulsesWritten : (K : Kind) → List ℕ → List ℕ → List ℕ → Result ℕ FileFault → Type 0
 PulsesWritten K text before after (Ok n) = Writes 0 (report_as K text) before after (Some n)
 PulsesWritten K text before after (Err fault) =
-    ((fault ≡ Writing OutputTooShort) × Writes 0 (report_as K text) before after None) ⊎
-    ((after ≡ before) × (read_text K 1000 text ≡ Err (found fault)) × InReading fault)
+    ((number (refusal_of fault) ≡ 14) × Writes 0 (report_as K text) before after None) ⊎
+    ((after ≡ before) × (read_text K 1000 text ≡ Err (found fault)))
+
+-- a fault before a refusal is told is that of a buffer too short, or one of reading
+abbrev pub OfReport : Result ℕ FileFault → Type 0
+OfReport (Ok n) = Unit {0}
+OfReport (Err fault) = (fault ≡ Writing OutputTooShort) ⊎ InReading fault
 
 -- a fault told as a text, unless it is that of the buffer
 abbrev pub FaultTold : FileFault → List ℕ → List ℕ → Result ℕ Refusal → Type 0

@@ -7,7 +7,7 @@ ghost use Rattle.sheets.specs.Takes.{state_of};
 ghost use Rattle.sheets.specs.History.{Calls, Shows};
 ghost use Rattle.reading.specs.Parts.{reach};
 ghost use Rattle.report.specs.PulseTexts.{pulse_text, sheet_text};
-ghost use Rattle.report.specs.Reports.{first_line, names_pieces, report_as, report_of, Reported, most_bytes, ReportsFit, refusal_in, RecordTaken, TextDue, PulsesWritten, FaultTold, Told};
+ghost use Rattle.report.specs.Reports.{first_line, names_pieces, report_as, report_of, Reported, most_bytes, ReportsFit, refusal_in, RecordTaken, TextDue, PulsesWritten, FaultTold, Told, ShortAlone, OfWriting, OfReport};
 
 use crate::sheet_text::write_pulses;
 use kinds::{Cents, Mobile, Paper, Total};
@@ -35,6 +35,7 @@ pub const MOST_REPORT_BYTES: usize = 65_536;
 pub fn report_on(text: &[u8], out: &mut [u8]) -> Result<usize, Refusal>
     ensures answer { Reported (report_of text.now) out.old out.new result }
     ensures room { most_bytes ≤ length out.old → is_ok result ≡ true }
+    ensures refusal { ShortAlone result }
 {
     report_either(text, out)
 }
@@ -50,6 +51,7 @@ pub fn reports_fit() -> u8
 fn report_either(text: &[u8], out: &mut [u8]) -> Result<usize, Refusal>
     ensures answer { Reported (report_of text.now) out.old out.new result }
     ensures room { most_bytes ≤ length out.old → is_ok result ≡ true }
+    ensures refusal { ShortAlone result }
 {
     if names_pieces(text) {
         report_mobile(text, out)
@@ -143,7 +145,8 @@ fn pulses_of<K: Total>(
     requires totals { length totals.old ≡ 1000 }
     requires work { 1002 ≤ length work.old }
     requires rows { 1000 ≤ length rows.old }
-    ensures { PulsesWritten K.kind text.now out.old out.new result }
+    ensures answer { PulsesWritten K.kind text.now out.old out.new result }
+    ensures fault { OfReport result }
 {
     let days = read_trace(text, totals)?;
     let mut sheet: Sheet<K, RowShelf<K>> = Sheet::new(RowShelf::over(rows));
@@ -161,7 +164,8 @@ fn split_and_write<K: Total, S: Shelf<K>>(
     requires within { days ≤ length totals.now }
     requires begun { Shows K.kind [] (state_of S.slots S.outside sheet.old) }
     requires accepted { Accepted K.kind (map K.columns (take days totals.now)) (length work.old) (length (state_of S.slots S.outside sheet.old).slots) }
-    ensures { TextDue (pulse_text K.kind (λ p. false) (pulses K.kind (map K.columns (take days totals.now)))) out.old out.new result }
+    ensures answer { TextDue (pulse_text K.kind (λ p. false) (pulses K.kind (map K.columns (take days totals.now)))) out.old out.new result }
+    ensures fault { OfWriting result }
 {
     in_taking(take_front(sheet, totals, days, work))?;
     let bytes = in_writing(write_sheet(&*sheet, out))?;

@@ -3,7 +3,7 @@ ghost use Rattle.std.specs.Prelude.{◌≡◌, ◌+◌, ◌≤◌, length};
 ghost use Rattle.shelves.specs.Slots.{is_out};
 ghost use Rattle.sheets.specs.Takes.{state_of};
 ghost use Rattle.reading.specs.Traces.{told};
-ghost use Rattle.report.specs.PulseTexts.{state as stated, slot_line, row_lines, sheet_text, TextWritten, TextTold, RoomLeft, PartWritten};
+ghost use Rattle.report.specs.PulseTexts.{state as stated, slot_line, row_lines, sheet_text, Stopped, TextWritten, TextTold, RoomLeft, PartWritten};
 
 use kinds::Total;
 use refusals::Refusal;
@@ -19,6 +19,7 @@ pub fn write_pulses<K: Total, S: Shelf<K>>(
     out: &mut [u8],
 ) -> Result<usize, Stop>
     ensures answer { TextWritten K.kind (state_of S.slots S.outside sheet.now) out.old out.new result }
+    ensures stop { Stopped 0 (sheet_text K.kind (state_of S.slots S.outside sheet.now)) out.old out.new result }
     ensures history { TextTold K.kind (state_of S.slots S.outside sheet.now) result }
 {
     tell_pulses(sheet, out)
@@ -27,6 +28,7 @@ pub fn write_pulses<K: Total, S: Shelf<K>>(
 // The same, with what the text is to the history of the sheet.
 fn tell_pulses<K: Total, S: Shelf<K>>(sheet: &Sheet<K, S>, out: &mut [u8]) -> Result<usize, Stop>
     ensures answer { TextWritten K.kind (state_of S.slots S.outside sheet.now) out.old out.new result }
+    ensures stop { Stopped 0 (sheet_text K.kind (state_of S.slots S.outside sheet.now)) out.old out.new result }
     ensures history { TextTold K.kind (state_of S.slots S.outside sheet.now) result }
 {
     write_text(sheet, out)
@@ -34,7 +36,8 @@ fn tell_pulses<K: Total, S: Shelf<K>>(sheet: &Sheet<K, S>, out: &mut [u8]) -> Re
 
 // The room is tested first, so that the lines that follow cannot fail.
 fn write_text<K: Total, S: Shelf<K>>(sheet: &Sheet<K, S>, out: &mut [u8]) -> Result<usize, Stop>
-    ensures { TextWritten K.kind (state_of S.slots S.outside sheet.now) out.old out.new result }
+    ensures answer { TextWritten K.kind (state_of S.slots S.outside sheet.now) out.old out.new result }
+    ensures stop { Stopped 0 (sheet_text K.kind (state_of S.slots S.outside sheet.now)) out.old out.new result }
 {
     match room_behind_text(sheet, out.len()) {
         Ok(_) => write_whole(sheet, out),
@@ -45,7 +48,8 @@ fn write_text<K: Total, S: Shelf<K>>(sheet: &Sheet<K, S>, out: &mut [u8]) -> Res
 // Writes the text into a buffer that has room.
 fn write_whole<K: Total, S: Shelf<K>>(sheet: &Sheet<K, S>, out: &mut [u8]) -> Result<usize, Stop>
     requires { length (sheet_text K.kind (state_of S.slots S.outside sheet.now)) ≤ length out.old }
-    ensures { PartWritten K.kind (state_of S.slots S.outside sheet.now) 0 (sheet_text K.kind (state_of S.slots S.outside sheet.now)) out.old out.new result }
+    ensures answer { PartWritten K.kind (state_of S.slots S.outside sheet.now) 0 (sheet_text K.kind (state_of S.slots S.outside sheet.now)) out.old out.new result }
+    ensures stop { Stopped 0 (sheet_text K.kind (state_of S.slots S.outside sheet.now)) out.old out.new result }
 {
     match write_pulse_names::<K>(Naming::begin(), out) {
         Ok(text) => match write_lines(sheet, text, out) {
@@ -110,7 +114,8 @@ fn write_lines<K: Total, S: Shelf<K>>(
     out: &mut [u8],
 ) -> Result<Lines, Stop>
     requires { named.at + length (row_lines K.kind (state_of S.slots S.outside sheet.now).count (state_of S.slots S.outside sheet.now).slots) ≤ length out.old }
-    ensures { PartWritten K.kind (state_of S.slots S.outside sheet.now) named.at (row_lines K.kind (state_of S.slots S.outside sheet.now).count (state_of S.slots S.outside sheet.now).slots) out.old out.new (told (λ t. t.at) (λ e. e) result) }
+    ensures answer { PartWritten K.kind (state_of S.slots S.outside sheet.now) named.at (row_lines K.kind (state_of S.slots S.outside sheet.now).count (state_of S.slots S.outside sheet.now).slots) out.old out.new (told (λ t. t.at) (λ e. e) result) }
+    ensures stop { Stopped named.at (row_lines K.kind (state_of S.slots S.outside sheet.now).count (state_of S.slots S.outside sheet.now).slots) out.old out.new (told (λ t. t.at) (λ e. e) result) }
 {
     let count = sheet.pulses();
     let mut text = named;
@@ -131,7 +136,8 @@ fn write_line<K: Total, S: Shelf<K>>(
     out: &mut [u8],
 ) -> Result<Lines, Stop>
     requires { (1 ≤ number) × ((number ≤ (state_of S.slots S.outside sheet.now).count) × (text.at + length (slot_line K.kind (state_of S.slots S.outside sheet.now).slots number) ≤ length out.old)) }
-    ensures { PartWritten K.kind (state_of S.slots S.outside sheet.now) text.at (slot_line K.kind (state_of S.slots S.outside sheet.now).slots number) out.old out.new (told (λ t. t.at) (λ e. e) result) }
+    ensures answer { PartWritten K.kind (state_of S.slots S.outside sheet.now) text.at (slot_line K.kind (state_of S.slots S.outside sheet.now).slots number) out.old out.new (told (λ t. t.at) (λ e. e) result) }
+    ensures stop { Stopped text.at (slot_line K.kind (state_of S.slots S.outside sheet.now).slots number) out.old out.new (told (λ t. t.at) (λ e. e) result) }
 {
     match sheet.pulse(number) {
         Ok(pulse) => {

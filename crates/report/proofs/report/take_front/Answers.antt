@@ -10,7 +10,7 @@ returns-in-Ok g c =
     let t = state_of g.S.Shelf.slots g.S.Shelf.outside c.take.new.self in
     let e : c.args.days - 0 ≡ c.args.days = omega arith in
     subst (λ n. RecordTaken g.K.Total.kind (map g.K.Total.columns (take n c.args.totals.now)) (length c.args.work.now) s t (Ok c.in-Ok.pulses)) e
-    (c.in-Ok.ensures.answer.2, λ h S. (c.in-Ok.ensures.history h S).0.shows)
+    (c.in-Ok.ensures.answer.2, λ h S. (c.in-Ok.ensures.history h S).0)
 
 pub returns-in-Err : goal.returns-in-Err
 returns-in-Err g c =

@@ -23,14 +23,17 @@ loop-done-preserved g c =
     (omega arith)
     c.loop-done.invariant.0
     c.loop-done.invariant.1
-    c.in-Ok.ensures.0
-    c.in-Ok.ensures.1
+    c.in-Ok.ensures.answer.0
+    c.in-Ok.ensures.answer.1
 
 pub returns-in-Err : goal.returns-in-Err
 returns-in-Err g c =
+    let stopped =
     lines_stop g.K.Total.kind (state_of g.S.Shelf.slots g.S.Shelf.outside c.args.sheet.now) c.loop-done.done c.args.named.at c.loop-done.text.at c.args.out.now c.loop-done.out c.write_line.new.out c.in-Err.stop
     (omega (arith, c.pulses-count.ensures, c.loop-done-test.true))
     (omega arith)
     c.loop-done.invariant.0
     c.loop-done.invariant.1
-    c.in-Err.ensures
+    c.in-Err.ensures.answer
+    c.in-Err.ensures.stop in
+    record { answer = stopped.0; stop = stopped.1 }

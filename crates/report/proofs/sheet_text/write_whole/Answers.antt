@@ -21,13 +21,16 @@ returns-in-Ok-write_lines g c =
     let s = state_of g.S.Shelf.slots g.S.Shelf.outside c.args.sheet.now in
     let names = line letters (pulse_names g.K.Total.kind) in
     let rows = row_lines g.K.Total.kind s.count s.slots in
-    whole_written names rows c.args.out.now c.write_pulse_names.new.out c.write_lines.new.out c.begin.result.at c.in-Ok.text.at c.in-Ok-write_lines.text.at c.length.result
+    record {
+      answer = whole_written names rows c.args.out.now c.write_pulse_names.new.out c.write_lines.new.out c.begin.result.at c.in-Ok.text.at c.in-Ok-write_lines.text.at c.length.result
     c.begin.ensures
     c.in-Ok.ensures.0
     c.in-Ok.ensures.1
-    c.in-Ok-write_lines.ensures.0
-    c.in-Ok-write_lines.ensures.1
-    (c.length.ensures ∙ c.end.ensures)
+    c.in-Ok-write_lines.ensures.answer.0
+    c.in-Ok-write_lines.ensures.answer.1
+    (c.length.ensures ∙ c.end.ensures);
+      stop = tt;
+    }
 
 pub returns-in-Err : goal.returns-in-Err
 returns-in-Err g c =
@@ -38,8 +41,11 @@ returns-in-Err g c =
 
 pub returns-in-Err-write_lines : goal.returns-in-Err-write_lines
 returns-in-Err-write_lines g c =
+    let stopped =
     whole_stop g.K.Total.kind (state_of g.S.Shelf.slots g.S.Shelf.outside c.args.sheet.now) c.begin.result.at c.in-Ok.text.at c.args.out.now c.write_pulse_names.new.out c.write_lines.new.out c.in-Err-write_lines.stop
     c.begin.ensures
     c.in-Ok.ensures.0
     c.in-Ok.ensures.1
-    c.in-Err-write_lines.ensures
+    c.in-Err-write_lines.ensures.answer
+    c.in-Err-write_lines.ensures.stop in
+    record { answer = stopped.0; stop = stopped.1 }
