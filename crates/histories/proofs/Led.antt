@@ -10,7 +10,7 @@ use Rattle.histories.specs.declared.steps.Step.{Step}
 use Rattle.sheets.specs.Takes.{State, Take}
 use Rattle.sheets.specs.Calls.{Call, taking, marking, marking_one}
 use Rattle.sheets.specs.Marks.{Marking}
-use Rattle.sheets.specs.History.{Calls, Continues, Shows}
+use Rattle.sheets.specs.History.{Calls, Continues}
 use Rattle.sheets.specs.Promise.{Promise, Keeps}
 use Rattle.histories.specs.Steps.{call_of, calls_of, Leaves, Lead, GoesOn, LeavesWork, LeadWork, GoesOnWork}
 

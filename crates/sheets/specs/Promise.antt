@@ -1,11 +1,10 @@
 -- What a sheet promises after any list of calls.
-use Rattle.std.specs.Prelude.{◌≡◌, ℕ, ◌≤◌, ◌↔◌, ◌∷◌, length, Result}
+use Rattle.std.specs.Prelude.{◌≡◌, ℕ, ◌≤◌, ◌↔◌, ◌∷◌, length}
 use Rattle.std.specs.List.{ContainsAt as Has}
 use Rattle.kinds.specs.Columns.{plus}
 use Rattle.kinds.specs.Kinds.{Kind}
 use Rattle.transform.specs.Windows.{Record, trace, smooth}
 use Rattle.transform.specs.Pulses.{Pulse, pulses, chosen, standing, sizes, swing}
-use Rattle.sheets.specs.declared.sheet.Stop.{Stop}
 use Rattle.sheets.specs.Takes.{State}
 use Rattle.sheets.specs.Calls.{Call}
 use Rattle.sheets.specs.History.{Calls, Held, Out, Shows}

@@ -29,16 +29,16 @@ returns g c =
     let m = c.loop-step.invariant in
     let all = take_all c.loop-step.step-index c.args.steps.now c.loop-step-test.false in
     let led =
-          subst
-          (λ s. LeadWork g.K.Total.kind (calls_of g.K.Total.kind (map g.K.Total.columns c.args.totals.now) (length c.args.work.now) c.args.steps.now) s
-          (state_of g.S.Shelf.slots g.S.Shelf.outside c.loop-step.sheet) c.args.work.now c.loop-step.work)
-          c.new-sheet.ensures.answer
-          (subst
-          (λ l. LeadWork g.K.Total.kind (calls_of g.K.Total.kind (map g.K.Total.columns c.args.totals.now) (length c.args.work.now) l)
-          (state_of g.S.Shelf.slots g.S.Shelf.outside c.new-sheet.result)
-          (state_of g.S.Shelf.slots g.S.Shelf.outside c.loop-step.sheet) c.args.work.now c.loop-step.work)
-          all
-          m.1) in
+    subst
+    (λ s. LeadWork g.K.Total.kind (calls_of g.K.Total.kind (map g.K.Total.columns c.args.totals.now) (length c.args.work.now) c.args.steps.now) s
+    (state_of g.S.Shelf.slots g.S.Shelf.outside c.loop-step.sheet) c.args.work.now c.loop-step.work)
+    c.new-sheet.ensures.answer
+    (subst
+    (λ l. LeadWork g.K.Total.kind (calls_of g.K.Total.kind (map g.K.Total.columns c.args.totals.now) (length c.args.work.now) l)
+    (state_of g.S.Shelf.slots g.S.Shelf.outside c.new-sheet.result)
+    (state_of g.S.Shelf.slots g.S.Shelf.outside c.loop-step.sheet) c.args.work.now c.loop-step.work)
+    all
+    m.1) in
     record {
       led = lead_sheet _ _ _ _ _ _ led;
       work = led;

@@ -28,10 +28,10 @@ pub returns : goal.returns
 returns g c =
     record {
       answer = read_good g.K.Total.kind g.K.Total.columns c.args.totals.now c.read_values.new.totals _ _ c.in_ok-days.days c.in_ok-read_values.field-0 (length c.args.totals.now)
-      c.in_ok-names.ensures.answer.0
-      c.in_ok-days.ensures.answer
-      c.if-totals-days.false
-      (omega arith)
-      c.in_ok-read_values.ensures.answer;
+          c.in_ok-names.ensures.answer.0
+          c.in_ok-days.ensures.answer
+          c.if-totals-days.false
+          (omega arith)
+          c.in_ok-read_values.ensures.answer;
       stage = tt;
     }

@@ -23,12 +23,12 @@ returns-in-Ok-write_lines g c =
     let rows = row_lines g.K.Total.kind s.count s.slots in
     record {
       answer = whole_written names rows c.args.out.now c.write_pulse_names.new.out c.write_lines.new.out c.begin.result.at c.in-Ok.text.at c.in-Ok-write_lines.text.at c.length.result
-    c.begin.ensures
-    c.in-Ok.ensures.0
-    c.in-Ok.ensures.1
-    c.in-Ok-write_lines.ensures.answer.0
-    c.in-Ok-write_lines.ensures.answer.1
-    (c.length.ensures ∙ c.end.ensures);
+          c.begin.ensures
+          c.in-Ok.ensures.0
+          c.in-Ok.ensures.1
+          c.in-Ok-write_lines.ensures.answer.0
+          c.in-Ok-write_lines.ensures.answer.1
+          (c.length.ensures ∙ c.end.ensures);
       stop = tt;
     }
 

@@ -8,13 +8,13 @@ pub returns : goal.returns
 returns g c =
     let shows =
     range_shows g.K.Total.kind g.met.K.Total.lawful c.args.mark c.args.low c.args.high
-      (state_of g.S.Shelf.slots g.S.Shelf.outside c.args.sheet.now)
-      (state_of g.S.Shelf.slots g.S.Shelf.outside c.change_range.new.sheet)
-      c.args.sheet.now
-      c.change_range.new.sheet
-      c.change_range.result
-      (ap (state_of g.S.Shelf.slots g.S.Shelf.outside))
-      c.change_range.ensures in
+    (state_of g.S.Shelf.slots g.S.Shelf.outside c.args.sheet.now)
+    (state_of g.S.Shelf.slots g.S.Shelf.outside c.change_range.new.sheet)
+    c.args.sheet.now
+    c.change_range.new.sheet
+    c.change_range.result
+    (ap (state_of g.S.Shelf.slots g.S.Shelf.outside))
+    c.change_range.ensures in
     record {
       answer = c.change_range.ensures;
       history = shows;
