@@ -4,7 +4,7 @@ use std::env;
 
 fn main() {
     let here = env::var("CARGO_MANIFEST_DIR").expect("cargo sets it");
-    let folder = format!("{here}/../target/staticlib");
+    let folder = format!("{here}/../crates/bench_take/out");
     println!("cargo:rustc-link-search=native={folder}");
     println!("cargo:rerun-if-changed={folder}/libbench_take.a");
 }
