@@ -57,7 +57,7 @@ fn has_column_one_alone(rt: HostRuntime) {
     assert_eq!(rt; cents(5).column(255), None);
     assert_eq!(rt; shown(cents(5).replace(1, LEAST)), Some(LEAST));
     assert_eq!(rt; shown(cents(5).replace(2, 1)), None);
-    assert_eq!(rt; shown(Some(<kinds::Whole<_> as Total>::zero())), Some(0));
+    assert_eq!(rt; shown(Some(Cents::zero())), Some(0));
 }
 
 #[test]

@@ -103,9 +103,8 @@ fn total_of<K: Total>(first: i64, second: i64) -> Option<K>
 
 // The total of these columns, or the fault where there is none or it may not be entered.
 fn enter<K: Total>(first: i64, second: i64, bad: LineFault) -> Result<K, LineFault>
-    requires { OnLine bad }
     ensures answer { told K.Total.columns line_found result ≡ entered K.Total.kind (filled K.Total.kind.arity first second) (Err (line_found bad)) }
-    ensures place { Placed result }
+    ensures place { OnLine bad → Placed result }
 {
     match total_of::<K>(first, second) {
         Some(total) => {

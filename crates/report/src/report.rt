@@ -92,7 +92,7 @@ fn line_end(text: &[u8]) -> usize
 fn report_mobile(text: &[u8], out: &mut [u8]) -> Result<usize, Refusal>
     ensures { Reported (report_as mobile text.now) out.old out.new result }
 {
-    let mut totals: [Mobile; MOST_DAYS] = [<kinds::Pair<_, _> as Total>::zero(); MOST_DAYS];
+    let mut totals: [Mobile; MOST_DAYS] = [Mobile::zero(); MOST_DAYS];
     let mut work: [WorkEntry<Mobile>; WORK_ENTRIES] = [WorkEntry::new(); WORK_ENTRIES];
     let mut rows: [Row<Mobile>; MOST_DAYS] = [blank(); MOST_DAYS];
     report_with(text, &mut totals, &mut work, &mut rows, out)
@@ -101,7 +101,7 @@ fn report_mobile(text: &[u8], out: &mut [u8]) -> Result<usize, Refusal>
 fn report_paper(text: &[u8], out: &mut [u8]) -> Result<usize, Refusal>
     ensures { Reported (report_as paper text.now) out.old out.new result }
 {
-    let mut totals: [Paper; MOST_DAYS] = [<kinds::Whole<_> as Total>::zero(); MOST_DAYS];
+    let mut totals: [Paper; MOST_DAYS] = [Paper::zero(); MOST_DAYS];
     let mut work: [WorkEntry<Paper>; WORK_ENTRIES] = [WorkEntry::new(); WORK_ENTRIES];
     let mut rows: [Row<Paper>; MOST_DAYS] = [blank(); MOST_DAYS];
     report_with(text, &mut totals, &mut work, &mut rows, out)
