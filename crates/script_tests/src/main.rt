@@ -61,19 +61,6 @@ fn unended(rt: &HostRuntime) -> anyhow::Result<()> {
     )
 }
 
-// The text of a record of so many days, each of one cent.
-fn long_take(rt: &HostRuntime, days: usize) -> anyhow::Result<()> {
-    let mut script = Vec::new(rt.alloc());
-    script.extend_from_slice(b"paper rows 1000\ntake 1002\nday,cents\n")?;
-    for day in 1..=days {
-        let line = format!(in rt.alloc(); "{day},1\n")?;
-        script.extend_from_slice(line.as_bytes())?;
-    }
-    script.extend_from_slice(b"\ndays\nlist\n")?;
-    println!(rt; "== {days} days")?;
-    run_script(rt, script.as_slice())
-}
-
 // A text of one line of so many letters.
 fn long_line(rt: &HostRuntime, letters: usize) -> anyhow::Result<()> {
     let mut script = Vec::new(rt.alloc());
@@ -90,8 +77,6 @@ fn run(rt: &HostRuntime) -> anyhow::Result<()> {
     rt.stdin().take(MOST_SCRIPTS).read_to_end(&mut table)?;
     run_table(rt, table.as_slice())?;
     unended(rt)?;
-    long_take(rt, 1000)?;
-    long_take(rt, 1001)?;
     long_line(rt, 39_999)?;
     long_line(rt, 40_000)
 }
