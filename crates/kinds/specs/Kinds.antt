@@ -2,16 +2,14 @@
 use Rattle.std.specs.Prelude.{◌≡◌, ℕ, ◌≤◌, Bool, true, false, pos, Some, None, Option}
 use Rattle.std.specs.declared.cmp.Ordering.TheVariants.{Less, Equal, Greater}
 use Rattle.std.specs.declared.cmp.Ordering.{Ordering}
+use Rattle.kinds.specs.declared.name.Name.{Name}
+use Rattle.kinds.specs.declared.name.Name.TheVariants.{Cents, Pieces}
 use Rattle.kinds.specs.Columns.{Arity, Each, All, Columns, plus, times, within, fits64, replaced}
 
--- the name of a column, and its code
-pub data Name : Type 0 where
-  cents : Name
-  pieces : Name
-
+-- the code of a column's name
 abbrev pub code : Name → ℕ
-code cents = 1
-code pieces = 2
+code Cents = 1
+code Pieces = 2
 
 -- the code of a column that may not exist
 abbrev pub code_of : Option Name → ℕ

@@ -1,10 +1,14 @@
 -- The pair of two one-column kinds keeps the laws of a kind.
-use Rattle.std.specs.Prelude.{◌≡◌, ℕ, Bool, true, false, ℤ, pos, ◌+ℤ◌, Some, refl}
+use Rattle.std.specs.Prelude.{◌≡◌, ℕ, Bool, true, false, not, ◌&&◌, ◌||◌, ℤ, pos, ◌+ℤ◌, Some, refl}
+use Rattle.std.specs.declared.cmp.Ordering.TheVariants.{Less, Equal, Greater}
+use Rattle.std.specs.declared.cmp.Ordering.{Ordering}
+use Rattle.std.specs.Ordering.{ordering_then}
 use Rattle.std.proofs.Common.{ap₂, arith}
 use Rattle.kinds.specs.Columns.{Arity, one, two, Each, Columns, replaced}
-use Rattle.kinds.specs.Kinds.{Kind, Lawful, Name}
-use Rattle.kinds.specs.Pairs.{only, below_in, has_in, pair}
-use Rattle.kinds.specs.Singles.{two_is_not_one}
+use Rattle.kinds.specs.declared.name.Name.{Name}
+use Rattle.kinds.specs.Kinds.{Kind, Of, Lawful, Compared}
+use Rattle.kinds.specs.Pairs.{only, alone, below_in, has_in, pair}
+use Rattle.kinds.specs.Singles.{two_is_not_one, compared_number}
 
 -- a one-column kind of such an order, bound, range and name
 abbrev single : (ℤ → ℤ → Bool) → ℕ → (ℤ → Bool) → Name → Kind
@@ -70,3 +74,19 @@ module _ (lt lt' : ℤ → ℤ → Bool) (b b' : ℕ) (h h' : ℤ → Bool) (n n
 pub pair_lawful : (A B : Kind) → A.arity ≡ one → B.arity ≡ one → Lawful A → Lawful B → Lawful (pair A B)
 pair_lawful A B e f a b =
     both_lawful (below_in A) (below_in B) (only A.arity A.bound) (only B.arity B.bound) (has_in A) (has_in B) (only A.arity A.names) (only B.arity B.names) (flat_lawful A e a) (flat_lawful B f b)
+
+both_compared : (lt lt' : ℤ → ℤ → Bool) → ((x : ℤ) → lt x x ≡ false) → (a b u v : ℤ) (r s : Ordering) → Compared lt a b r → Compared lt' u v s → Compared (λ (x y : ℤ × ℤ). lt x.0 y.0 || (not (lt y.0 x.0) && lt' x.1 y.1)) (a, u) (b, v) (ordering_then r s)
+both_compared lt lt' irr a b u v Less s p q = grind arith
+both_compared lt lt' irr a b u v Greater s p q = grind arith
+both_compared lt lt' irr a b u v Equal Less p q =
+    let same = ap₂ lt p p in
+    grind (arith, irr a)
+both_compared lt lt' irr a b u v Equal Equal p q = λ i. (p i, q i)
+both_compared lt lt' irr a b u v Equal Greater p q =
+    let same = ap₂ lt p p in
+    grind (arith, irr a)
+
+-- two totals of a pair compare by their first parts, then by their second
+pub pair_compared : (A B : Kind) → A.arity ≡ one → B.arity ≡ one → Lawful A → (x y : Of A) (u v : Of B) (r s : Ordering) → Compared A.below x y r → Compared B.below u v s → Compared (pair A B).below (only A.arity x, only B.arity u) (only A.arity y, only B.arity v) (ordering_then r s)
+pair_compared A B e f law x y u v r s p q =
+    both_compared (below_in A) (below_in B) (λ z. law.irreflexive (alone A.arity z)) _ _ _ _ r s (compared_number A e x y r p) (compared_number B f u v s q)

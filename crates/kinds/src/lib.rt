@@ -1,11 +1,13 @@
 // Kinds of total: the interface, and the kinds cents, pieces and pairs of one-column kinds.
 #![tactic(auto)]
 
+mod name;
 mod one_column;
 mod pair;
 mod total;
 mod whole;
 
+pub use name::{Name, name_code};
 pub use one_column::OneColumn;
 pub use pair::Pair;
 pub use total::Total;

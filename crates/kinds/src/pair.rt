@@ -1,17 +1,15 @@
 // A pair of two one-column totals, ordered by the first, then by the second.
 ghost use Rattle.kinds.specs.Pairs.{only, pair, has_in};
-ghost use Rattle.kinds.specs.PairsLemmas.{pair_lawful};
+ghost use Rattle.kinds.specs.PairsLemmas.{pair_lawful, pair_compared};
 ghost use Rattle.std.specs.Prelude.{◌≡◌, true};
 ghost use Rattle.std.proofs.Common.{ap, ◌∙◌, arith};
 ghost use Rattle.kinds.specs.Singles.{alone_only};
 
-use crate::one_column::{
-    OneColumn, compare_of, difference_of, enters, name_of, number_of, sum_of, with_number, zero_of,
-};
+use crate::name::Name;
+use crate::one_column::OneColumn;
 use crate::total::Total;
-use std::cmp::Ordering;
 
-#[derive(Clone, Copy)]
+#[derive(Clone, Copy, PartialEq, Eq, PartialOrd, Ord)]
 pub struct Pair<A, B> {
     pub first: A,
     pub second: B,
@@ -33,78 +31,60 @@ impl<A: OneColumn, B: OneColumn> Total for Pair<A, B> {
         ap B'.has (alone_only B'.arity B.OneColumn.single (B.Total.columns x.second)) ∙ B.Total.held x.second in
         Prim.grind arith };
 
+    ghost ordered = { λ x y. pair_compared A.Total.kind B.Total.kind A.OneColumn.single B.OneColumn.single A.Total.lawful _ _ _ _ _ _ (A.Total.ordered x.first y.first) (B.Total.ordered x.second y.second) };
+
     fn zero() -> Pair<A, B> {
         Pair {
-            first: zero_of(),
-            second: zero_of(),
+            first: A::zero(),
+            second: B::zero(),
         }
     }
 
     fn may_enter(self) -> bool {
-        enters(self.first) & enters(self.second)
+        self.first.may_enter() && self.second.may_enter()
     }
 
     fn sum(self, other: Pair<A, B>) -> Option<Pair<A, B>> {
-        let Some(first) = sum_of(self.first, other.first) else {
-            return None;
-        };
-        let Some(second) = sum_of(self.second, other.second) else {
-            return None;
-        };
-        Some(Pair { first, second })
+        Some(Pair {
+            first: self.first.sum(other.first)?,
+            second: self.second.sum(other.second)?,
+        })
     }
 
     fn difference(self, other: Pair<A, B>) -> Option<Pair<A, B>> {
-        let Some(first) = difference_of(self.first, other.first) else {
-            return None;
-        };
-        let Some(second) = difference_of(self.second, other.second) else {
-            return None;
-        };
-        Some(Pair { first, second })
-    }
-
-    fn compare(self, other: Pair<A, B>) -> Ordering {
-        match compare_of(self.first, other.first) {
-            Ordering::Less => Ordering::Less,
-            Ordering::Greater => Ordering::Greater,
-            Ordering::Equal => compare_of(self.second, other.second),
-        }
+        Some(Pair {
+            first: self.first.difference(other.first)?,
+            second: self.second.difference(other.second)?,
+        })
     }
 
     fn column(self, number: u8) -> Option<i64> {
         match number {
-            1 => number_of(self.first),
-            2 => number_of(self.second),
+            1 => self.first.column(1),
+            2 => self.second.column(1),
             _ => None,
         }
     }
 
     fn replace(self, number: u8, value: i64) -> Option<Pair<A, B>> {
         match number {
-            1 => match with_number(self.first, value) {
-                Some(first) => Some(Pair {
-                    first,
-                    second: self.second,
-                }),
-                None => None,
-            },
-            2 => match with_number(self.second, value) {
-                Some(second) => Some(Pair {
-                    first: self.first,
-                    second,
-                }),
-                None => None,
-            },
+            1 => Some(Pair {
+                first: self.first.replace(1, value)?,
+                ..self
+            }),
+            2 => Some(Pair {
+                second: self.second.replace(1, value)?,
+                ..self
+            }),
             _ => None,
         }
     }
 
-    fn name(number: u8) -> u8 {
+    fn name(number: u8) -> Option<Name> {
         match number {
-            1 => name_of::<A>(),
-            2 => name_of::<B>(),
-            _ => 0,
+            1 => A::name(1),
+            2 => B::name(1),
+            _ => None,
         }
     }
 }

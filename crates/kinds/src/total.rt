@@ -1,13 +1,13 @@
 // What a kind of total is to everything above.
 ghost use Rattle.std.specs.Prelude.{◌≡◌, true};
 ghost use Rattle.kinds.specs.Columns.{nought, plus, minus, within, column, replaced};
-ghost use Rattle.kinds.specs.Kinds.{Kind, Of, Lawful, Gives, GivesIf, Compared, code_of};
+ghost use Rattle.kinds.specs.Kinds.{Kind, Of, Lawful, Gives, GivesIf, Compared};
 
-use std::cmp::Ordering;
+use crate::name::Name;
 
 // A daily total: one or two columns, each a whole number. Two totals are equal when they have the
-// same columns, so totals are compared by `compare` alone and never by `==`.
-pub trait Total: Copy {
+// same columns, and one is less than the other by the kind's order.
+pub trait Total: Copy + Ord {
     // what all values of the kind share
     ghost kind: { Kind };
 
@@ -29,10 +29,6 @@ pub trait Total: Copy {
     fn difference(self, other: Self) -> Option<Self>
         ensures { Gives kind columns (minus kind.arity (columns self) (columns other)) result };
 
-    // How this total stands to the other in the kind's order.
-    fn compare(self, other: Self) -> Ordering
-        ensures { Compared kind.below (columns self) (columns other) result };
-
     // Column number 1 or 2, or nothing where there is no such column.
     fn column(self, number: u8) -> Option<i64>
         ensures { result ≡ column kind.arity (columns self) number };
@@ -41,11 +37,14 @@ pub trait Total: Copy {
     fn replace(self, number: u8, value: i64) -> Option<Self>
         ensures { GivesIf kind columns (replaced kind.arity (columns self) number value) result };
 
-    // The code of a column's name: 1 cents, 2 pieces, 0 no such column.
-    fn name(number: u8) -> u8
-        ensures { result ≡ code_of (column kind.arity kind.names number) };
+    // The name of column number 1 or 2, or nothing where there is no such column.
+    fn name(number: u8) -> Option<Name>
+        ensures { result ≡ column kind.arity kind.names number };
 
     ghost lawful: { Lawful kind };
 
     ghost held: { (x : Self) → kind.has (columns x) ≡ true };
+
+    // how one total stands to another, in the kind's order
+    ghost ordered: { (x y : Self) → Compared kind.below (columns x) (columns y) (Self.Ord.cmp x y) };
 }

@@ -1,86 +1,69 @@
 // Whole numbers of one unit: cents and pieces.
 ghost use Rattle.std.specs.Prelude.{◌≡◌, ℕ, true, ⊤};
 ghost use Rattle.kinds.specs.Columns.{fits64};
-ghost use Rattle.kinds.specs.Kinds.{Name, cents, pieces, code};
-ghost use Rattle.kinds.specs.Wholes.{whole, Sound, cents_bound, pieces_bound};
-ghost use Rattle.std.proofs.Common.{rules, arith};
+ghost use Rattle.kinds.specs.declared.name.Name.{Name as Named};
+ghost use Rattle.kinds.specs.declared.name.Name.TheVariants.{Cents as cents, Pieces as pieces};
+ghost use Rattle.kinds.specs.Wholes.{whole, Sound, cents_bound, pieces_bound, cents_sound, pieces_sound};
+ghost use Rattle.std.proofs.Common.{rules};
 
+use crate::name::Name;
 use crate::one_column::OneColumn;
 use crate::total::Total;
 use std::alloc::AllocError;
-use std::cmp::Ordering;
+use std::marker::PhantomData;
 
 // What is counted: the name of the column and its entry bound.
-pub trait Unit: Copy {
-    ghost bound: { ℕ };
+pub trait Unit: Copy + Ord {
+    ghost BOUND: { ℕ };
 
-    ghost name: { Name };
+    ghost NAME: { Named };
 
-    fn unit() -> Self;
+    const BOUND: u64;
 
-    fn limit() -> u64
-        ensures { result ≡ bound };
+    const NAME: Name;
 
-    fn name_code() -> u8
-        ensures { result ≡ code name };
-
-    ghost sound: { Sound bound };
+    ghost sound: { Sound BOUND };
 }
 
-#[derive(Clone, Copy)]
+#[derive(Clone, Copy, PartialEq, Eq, PartialOrd, Ord)]
 pub struct CentsUnit;
 
 impl Unit for CentsUnit {
-    ghost bound = { cents_bound };
+    ghost BOUND = { cents_bound };
 
-    ghost name = { cents };
+    ghost NAME = { cents };
 
-    ghost sound = { Prim.search rules };
+    ghost sound = { cents_sound };
 
-    fn unit() -> CentsUnit {
-        CentsUnit
-    }
+    const BOUND: u64 = 1_000_000_000_000;
 
-    fn limit() -> u64 {
-        1_000_000_000_000
-    }
-
-    fn name_code() -> u8 {
-        1
-    }
+    const NAME: Name = Name::Cents;
 }
 
-#[derive(Clone, Copy)]
+#[derive(Clone, Copy, PartialEq, Eq, PartialOrd, Ord)]
 pub struct PiecesUnit;
 
 impl Unit for PiecesUnit {
-    ghost bound = { pieces_bound };
+    ghost BOUND = { pieces_bound };
 
-    ghost name = { pieces };
+    ghost NAME = { pieces };
 
-    ghost sound = { Prim.search rules };
+    ghost sound = { pieces_sound };
 
-    fn unit() -> PiecesUnit {
-        PiecesUnit
-    }
+    const BOUND: u64 = 1_000_000_000;
 
-    fn limit() -> u64 {
-        1_000_000_000
-    }
-
-    fn name_code() -> u8 {
-        2
-    }
+    const NAME: Name = Name::Pieces;
 }
 
 // A whole number of one unit, of 64 bits.
-#[derive(Copy)]
+#[derive(Copy, PartialEq, Eq, PartialOrd, Ord)]
 pub struct Whole<U> {
     value: i64,
-    unit: U,
+    unit: PhantomData<U>,
     ghost fits: { fits64 value ≡ true },
 }
 
+// By hand: none is derived for a struct with a ghost field.
 impl<U: Copy> Clone for Whole<U> {
     ghost is_clone = { λ x y. y ≡ x };
 
@@ -102,69 +85,51 @@ impl<U: Unit> Whole<U> {
     {
         Whole {
             value,
-            unit: U::unit(),
+            unit: PhantomData,
         }
     }
 }
 
 impl<U: Unit> Total for Whole<U> {
-    ghost kind = { whole U.Unit.bound U.Unit.name };
+    ghost kind = { whole U.BOUND U.NAME };
 
     ghost columns = { λ x. x.value };
 
-    ghost lawful = { first_of (Prim.search rules, Prim.grind (arith, Self.row.coded.inj)) };
+    ghost lawful = { Prim.search rules };
 
-    ghost held = { first_of (Prim.search rules, Prim.grind (arith, Self.row.coded.inj)) };
+    ghost held = { Prim.search rules };
+
+    ghost ordered = { Prim.search rules };
 
     fn zero() -> Whole<U> {
-        Whole::<U>::new(0)
+        Whole::new(0)
     }
 
     fn may_enter(self) -> bool {
-        self.value.unsigned_abs() <= U::limit()
+        self.value.unsigned_abs() <= U::BOUND
     }
 
     fn sum(self, other: Whole<U>) -> Option<Whole<U>> {
-        match self.value.checked_add(other.value) {
-            Some(value) => Some(Whole::<U>::new(value)),
-            None => None,
-        }
+        Some(Whole::new(self.value.checked_add(other.value)?))
     }
 
     fn difference(self, other: Whole<U>) -> Option<Whole<U>> {
-        match self.value.checked_sub(other.value) {
-            Some(value) => Some(Whole::<U>::new(value)),
-            None => None,
-        }
-    }
-
-    fn compare(self, other: Whole<U>) -> Ordering {
-        if self.value < other.value {
-            Ordering::Less
-        } else if other.value < self.value {
-            Ordering::Greater
-        } else {
-            Ordering::Equal
-        }
+        Some(Whole::new(self.value.checked_sub(other.value)?))
     }
 
     fn column(self, number: u8) -> Option<i64> {
-        if number == 1 { Some(self.value) } else { None }
+        (number == 1).then_some(self.value)
     }
 
     fn replace(self, number: u8, value: i64) -> Option<Whole<U>> {
-        if number == 1 {
-            Some(Whole::<U>::new(value))
-        } else {
-            None
-        }
+        (number == 1).then_some(Whole::new(value))
     }
 
-    fn name(number: u8) -> u8 {
-        if number == 1 { U::name_code() } else { 0 }
+    fn name(number: u8) -> Option<Name> {
+        (number == 1).then_some(U::NAME)
     }
 }
 
 impl<U: Unit> OneColumn for Whole<U> {
-    ghost single = { first_of (Prim.search rules, Prim.grind (arith, Self.row.coded.inj)) };
+    ghost single = { Prim.search rules };
 }
