@@ -1,7 +1,9 @@
 -- Lemmas on the names of columns.
 use Rattle.std.proofs.Common.{◌≡◌, eqb, Some, None, Option, refl, arith}
 use Rattle.kinds.specs.Columns.{Arity, one, two, Each, column}
-use Rattle.kinds.specs.Kinds.{Name, cents, pieces, code, code_of}
+use Rattle.kinds.specs.declared.name.Name.{Name}
+use Rattle.kinds.specs.declared.name.Name.TheVariants.{Cents as cents, Pieces as pieces}
+use Rattle.kinds.specs.Kinds.{code, code_of}
 use Rattle.figures.specs.declared.heading.Heading.TheVariants.{Cents, Pieces}
 use Rattle.figures.specs.Headings.{first, second, heading, heading_if, twins}
 

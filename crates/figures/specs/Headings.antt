@@ -1,7 +1,9 @@
 -- The names that stand over the columns of our texts.
 use Rattle.std.specs.Prelude.{ℕ, Bool, false, List, [], ◌∷◌, Some, None, codes, Option, ◌==◌}
 use Rattle.kinds.specs.Columns.{Arity, one, two, Each}
-use Rattle.kinds.specs.Kinds.{Name, cents, pieces, code}
+use Rattle.kinds.specs.declared.name.Name.{Name}
+use Rattle.kinds.specs.declared.name.Name.TheVariants.{Cents as cents, Pieces as pieces}
+use Rattle.kinds.specs.Kinds.{code}
 use Rattle.figures.specs.declared.heading.Heading.{Heading}
 use Rattle.figures.specs.declared.heading.Heading.TheVariants.{Day, Cents, Pieces, Pulse, Width, First, State, Refusal, Line, Byte}
 

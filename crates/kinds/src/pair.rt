@@ -9,7 +9,7 @@ use crate::name::Name;
 use crate::one_column::OneColumn;
 use crate::total::Total;
 
-#[derive(Clone, Copy, PartialEq, Eq, PartialOrd, Ord)]
+#[derive(Clone, Copy, PartialEq, Eq, PartialOrd, Ord, Debug)]
 pub struct Pair<A, B> {
     pub first: A,
     pub second: B,

@@ -25,7 +25,7 @@ pub trait Unit: Copy + Ord {
     ghost sound: { Sound BOUND };
 }
 
-#[derive(Clone, Copy, PartialEq, Eq, PartialOrd, Ord)]
+#[derive(Clone, Copy, PartialEq, Eq, PartialOrd, Ord, Debug)]
 pub struct CentsUnit;
 
 impl Unit for CentsUnit {
@@ -40,7 +40,7 @@ impl Unit for CentsUnit {
     const NAME: Name = Name::Cents;
 }
 
-#[derive(Clone, Copy, PartialEq, Eq, PartialOrd, Ord)]
+#[derive(Clone, Copy, PartialEq, Eq, PartialOrd, Ord, Debug)]
 pub struct PiecesUnit;
 
 impl Unit for PiecesUnit {
@@ -56,7 +56,7 @@ impl Unit for PiecesUnit {
 }
 
 // A whole number of one unit, of 64 bits.
-#[derive(Copy, PartialEq, Eq, PartialOrd, Ord)]
+#[derive(Copy, PartialEq, Eq, PartialOrd, Ord, Debug)]
 pub struct Whole<U> {
     value: i64,
     unit: PhantomData<U>,

@@ -7,10 +7,10 @@ mod pairs;
 mod wholes;
 
 #[cfg(test)]
-use kinds::Total;
+use kinds::{Total, name_code};
 
-// The name of a column of the total's kind.
+// The code of the name of a column of the total's kind.
 #[cfg(test)]
 fn name_of<K: Total>(_total: K, number: u8) -> u8 {
-    K::name(number)
+    name_code::<K>(number)
 }

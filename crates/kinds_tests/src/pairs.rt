@@ -13,25 +13,17 @@ fn mobile(cents: i64, pieces: i64) -> Mobile {
 }
 
 fn shown(total: Option<Mobile>) -> Option<(i64, i64)> {
-    let Some(x) = total else {
-        return None;
-    };
-    let Some(first) = x.column(1) else {
-        return None;
-    };
-    let Some(second) = x.column(2) else {
-        return None;
-    };
-    Some((first, second))
+    let x = total?;
+    Some((x.column(1)?, x.column(2)?))
 }
 
 #[test]
 fn ties_are_broken_by_the_second_part(rt: HostRuntime) {
-    assert_eq!(rt; mobile(4, 1).compare(mobile(4, 3)), Ordering::Less);
-    assert_eq!(rt; mobile(4, 3).compare(mobile(4, 3)), Ordering::Equal);
-    assert_eq!(rt; mobile(4, 3).compare(mobile(4, 2)), Ordering::Greater);
-    assert_eq!(rt; mobile(3, 9).compare(mobile(4, -9)), Ordering::Less);
-    assert_eq!(rt; mobile(5, -9).compare(mobile(4, 9)), Ordering::Greater);
+    assert_eq!(rt; mobile(4, 1).cmp(&mobile(4, 3)), Ordering::Less);
+    assert_eq!(rt; mobile(4, 3).cmp(&mobile(4, 3)), Ordering::Equal);
+    assert_eq!(rt; mobile(4, 3).cmp(&mobile(4, 2)), Ordering::Greater);
+    assert_eq!(rt; mobile(3, 9).cmp(&mobile(4, -9)), Ordering::Less);
+    assert_eq!(rt; mobile(5, -9).cmp(&mobile(4, 9)), Ordering::Greater);
 }
 
 #[test]

@@ -12,10 +12,7 @@ fn cents(value: i64) -> Cents {
 }
 
 fn shown(total: Option<Cents>) -> Option<i64> {
-    match total {
-        Some(x) => x.column(1),
-        None => None,
-    }
+    total?.column(1)
 }
 
 #[test]
@@ -43,9 +40,9 @@ fn sums_end_with_64_bits(rt: HostRuntime) {
 
 #[test]
 fn compares_as_whole_numbers(rt: HostRuntime) {
-    assert_eq!(rt; cents(LEAST).compare(cents(MOST)), Ordering::Less);
-    assert_eq!(rt; cents(3).compare(cents(3)), Ordering::Equal);
-    assert_eq!(rt; cents(3).compare(cents(-3)), Ordering::Greater);
+    assert_eq!(rt; cents(LEAST).cmp(&cents(MOST)), Ordering::Less);
+    assert_eq!(rt; cents(3).cmp(&cents(3)), Ordering::Equal);
+    assert_eq!(rt; cents(3).cmp(&cents(-3)), Ordering::Greater);
 }
 
 #[test]

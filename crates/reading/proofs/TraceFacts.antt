@@ -3,7 +3,9 @@ use Rattle.std.proofs.Common.{◌≡◌, ℕ, ◌+◌, Bool, true, false, cond, 
 use Rattle.std.proofs.lemmas.Bool.{cases_Bool, both_ways, eq-eqb}
 use Rattle.refusals.specs.Table.{number}
 use Rattle.kinds.specs.Columns.{Arity, one, two, Each, Columns, nought, replaced, column}
-use Rattle.kinds.specs.Kinds.{Name, cents, pieces, code, code_of, Kind, Of, Lawful, Gives, GivesIf}
+use Rattle.kinds.specs.declared.name.Name.{Name}
+use Rattle.kinds.specs.declared.name.Name.TheVariants.{Cents as cents, Pieces as pieces}
+use Rattle.kinds.specs.Kinds.{code, code_of, Kind, Of, Lawful, Gives, GivesIf}
 use Rattle.figures.specs.declared.heading.Heading.TheVariants.{Day}
 use Rattle.refusals.specs.declared.fault.FaultAtLine.{FaultAtLine}
 use Rattle.refusals.specs.declared.fault.FieldFault.{FieldFault}

@@ -3,7 +3,8 @@ use Rattle.std.proofs.Common.{◌≡◌, ℕ, true, false, List, [], ◌∷◌, 
 use Rattle.std.proofs.lemmas.Bool.{cases_Bool, and_parts, false≢true}
 use Rattle.std.specs.Str.{bytes_eq}
 use Rattle.kinds.specs.Columns.{Arity, one, two, Each, Columns}
-use Rattle.kinds.specs.Kinds.{Name, Kind}
+use Rattle.kinds.specs.declared.name.Name.{Name}
+use Rattle.kinds.specs.Kinds.{Kind}
 use Rattle.figures.specs.declared.heading.Heading.TheVariants.{Day}
 use Rattle.reading.specs.Accepted.{AllFigures}
 use Rattle.figures.specs.Figures.{figure}

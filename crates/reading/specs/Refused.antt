@@ -2,7 +2,8 @@
 use Rattle.std.specs.Prelude.{◌≡◌, ℕ, ◌+◌, ◌<◌, true, false, cond, ◌⊎◌, List, [], ◌∷◌, ◌++◌, length, ℤ, pos, Some, None, Ok, Err, Result, ◌==◌, ◌≢◌}
 use Rattle.std.specs.List.{ContainsAt as Has}
 use Rattle.kinds.specs.Columns.{Arity, one, two, Each, Columns, within}
-use Rattle.kinds.specs.Kinds.{Name, Kind, Of}
+use Rattle.kinds.specs.declared.name.Name.{Name}
+use Rattle.kinds.specs.Kinds.{Kind, Of}
 use Rattle.figures.specs.declared.heading.Heading.TheVariants.{Day}
 use Rattle.refusals.specs.Faults.{Finding}
 use Rattle.figures.specs.Figures.{figure}

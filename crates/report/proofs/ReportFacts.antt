@@ -3,7 +3,8 @@ use Rattle.std.proofs.Common.{ℕ, ◌^◌, ◌<◌, ◌≤◌, false, List, len
 use Rattle.std.proofs.lemmas.List.{length-append}
 use Rattle.std.proofs.lemmas.Fmt.{length-decimal-le}
 use Rattle.std.proofs.lemmas.Bool.{cond_both}
-use Rattle.kinds.specs.Kinds.{Kind, Name, Lawful}
+use Rattle.kinds.specs.declared.name.Name.{Name}
+use Rattle.kinds.specs.Kinds.{Kind, Lawful}
 use Rattle.kinds.specs.Wholes.{whole, Sound, cents_bound, pieces_bound, paper, mobile}
 use Rattle.kinds.specs.PairsLemmas.{pair_lawful}
 use Rattle.transform.specs.Windows.{Record}

@@ -2,7 +2,8 @@
 use Rattle.std.proofs.Common.{◌≡◌, ℕ, ◌<◌, ◌≤◌, Bool, false, List, length, ℤ, pos, Some, None, Option, sym, refl, ap, ◌∙◌, ⊎_elim, arith}
 use Rattle.std.proofs.lemmas.Bool.{cases_Bool, both_ways}
 use Rattle.kinds.specs.Columns.{Arity, one, two, Each, Columns, nought, replaced}
-use Rattle.kinds.specs.Kinds.{Kind, Of, Name, Lawful, Gives, GivesIf}
+use Rattle.kinds.specs.declared.name.Name.{Name}
+use Rattle.kinds.specs.Kinds.{Kind, Of, Lawful, Gives, GivesIf}
 use Rattle.shelves.specs.Bytes.{part, signed, size, stored}
 
 -- a kind, by its parts

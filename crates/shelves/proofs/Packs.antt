@@ -3,7 +3,8 @@ use Rattle.std.proofs.Common.{◌≡◌, ℕ, ◌*◌, ◌^◌, ◌<◌, Bool, t
 use Rattle.std.proofs.lemmas.Int.{to_z-of_z}
 use Rattle.std.proofs.lemmas.Bool.{ltb-true, cond-true}
 use Rattle.kinds.specs.Columns.{Arity, one, two, Columns, Each, fits64}
-use Rattle.kinds.specs.Kinds.{Kind, Of, Name, Lawful}
+use Rattle.kinds.specs.declared.name.Name.{Name}
+use Rattle.kinds.specs.Kinds.{Kind, Of, Lawful}
 use Rattle.shelves.specs.declared.row.Row.{Row}
 use Rattle.shelves.specs.Bytes.{count, bytes_of_signed, packed, packed_columns, signed, size, unpacked}
 use Rattle.shelves.specs.Slots.{shown, slot_of}

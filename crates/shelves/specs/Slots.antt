@@ -6,6 +6,7 @@ use Rattle.kinds.specs.Kinds.{Kind, Of}
 use Rattle.shelves.specs.declared.row.Row.{Row}
 use Rattle.shelves.specs.declared.row.Mark.{Mark}
 use Rattle.shelves.specs.declared.row.Mark.TheVariants.{In, Out}
+use Rattle.shelves.specs.declared.row.NoMark.{NoMark}
 use Rattle.shelves.specs.declared.row.NoSuchSlot.{NoSuchSlot}
 
 -- the row in a slot: first day, width, whether it is marked out, and the columns of its amount
@@ -28,6 +29,11 @@ is_out Out = true
 -- the mark of a number, if it is one's
 abbrev pub mark_of : ℕ → Option Mark
 mark_of n = cond (n == 0) (Some In) (cond (n == 1) (Some Out) None)
+
+-- a number turned into a mark: the mark that it is the number of, or it is none's
+abbrev pub MarkOf : ℕ → Result Mark NoMark → Type 0
+MarkOf n (Ok m) = mark_of n ≡ Some m
+MarkOf n (Err no_mark) = mark_of n ≡ None
 
 -- columns as a list
 abbrev pub listed : (a : Arity) → Columns a → List ℤ

@@ -5,7 +5,7 @@ ghost use Rattle.shelves.specs.Slots.{shown, Put, Read};
 
 use crate::packing::{pack, slot_size, unpack};
 use crate::row::{NoSuchSlot, Row};
-use crate::shelf::{OverBytes, Shelf};
+use crate::shelf::Shelf;
 use kinds::Total;
 use std::marker::PhantomData;
 
@@ -95,8 +95,9 @@ impl<'a, K: Total> Shelf<K> for ByteShelf<'a, K> {
     }
 }
 
-impl<'a, K: Total> OverBytes<'a, K> for ByteShelf<'a, K> {
-    fn over(bytes: &'a mut [u8]) -> ByteShelf<'a, K>
+impl<'a, K: Total> ByteShelf<'a, K> {
+    // A shelf over lent bytes; those past the whole slots never change.
+    pub fn over(bytes: &'a mut [u8]) -> ByteShelf<'a, K>
         ensures slots { shown_bytes K.kind result.bytes.now ≡ shown_bytes K.kind bytes.old }
         ensures outside { over_bytes K.kind result.bytes ≡ over_bytes K.kind bytes.entry }
         ensures bytes { result.bytes ≡ bytes.entry }

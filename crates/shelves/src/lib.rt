@@ -6,13 +6,13 @@ mod laws;
 mod packing;
 mod row;
 mod row_shelf;
-mod rows;
 mod shelf;
 mod stretch;
 
 pub use byte_shelf::ByteShelf;
 pub use laws::put_then_read;
-pub use row::{Mark, NoSuchSlot, Row};
+pub use packing::slot_size;
+pub use row::{Mark, NoMark, NoSuchSlot, Row};
 pub use row_shelf::RowShelf;
-pub use shelf::{OverBytes, OverRows, Shelf};
+pub use shelf::Shelf;
 pub use stretch::Stretch;

@@ -6,18 +6,14 @@ ghost use Rattle.kinds.specs.Kinds.{Gives};
 ghost use Rattle.shelves.specs.Bytes.{bytes_of_signed, clear, count, little, packed, packed_columns, packed_head, signed, size, stored, unpacked};
 ghost use Rattle.shelves.specs.Slots.{Holds, shown};
 
-use crate::row::Row;
-use crate::rows::is_mark;
+use crate::row::{Mark, Row};
 use kinds::Total;
 
-// How many bytes a slot has.
-pub(crate) fn slot_size<K: Total>() -> usize
+// How many bytes a slot of the kind has.
+pub fn slot_size<K: Total>() -> usize
     ensures { result ≡ size K.kind.arity }
 {
-    match K::zero().column(2) {
-        Some(_) => 24,
-        None => 16,
-    }
+    if K::name(2).is_some() { 24 } else { 16 }
 }
 
 // The first eight bytes.
@@ -42,7 +38,7 @@ fn is_row(slot: &[u8]) -> bool
     requires { 8 ≤ length slot.now }
     ensures { result ≡ (nat_le (slice_index slot.now 4) 1 && clear slot.now) }
 {
-    is_mark(slot[4]) && (slot[5] == 0 && (slot[6] == 0 && slot[7] == 0))
+    Mark::try_from(slot[4]).is_ok() && slot[5..8] == [0, 0, 0]
 }
 
 // The column in eight bytes.
@@ -68,10 +64,7 @@ fn column_of<K: Total>(amount: K, number: u8) -> i64
     requires { (1 ≤ number) × (number ≤ count K.kind.arity) }
     ensures { column K.kind.arity (K.columns amount) number ≡ Some result }
 {
-    match amount.column(number) {
-        Some(value) => value,
-        None => 0,
-    }
+    amount.column(number).unwrap_or(0)
 }
 
 // Writes every column, one after the other.
@@ -100,9 +93,7 @@ fn amount_in<K: Total>(slot: &[u8]) -> Option<K>
     requires { length slot.now ≡ size K.kind.arity }
     ensures { Gives K.kind K.columns (stored K.kind.arity slot.now) result }
 {
-    let Some(amount) = K::zero().replace(1, column_in(&slot[8..16])) else {
-        return None;
-    };
+    let amount = K::zero().replace(1, column_in(&slot[8..16]))?;
     if slot.len() > 16 {
         amount.replace(2, column_in(&slot[16..24]))
     } else {
@@ -118,9 +109,7 @@ pub(crate) fn unpack<K: Total>(slot: &[u8]) -> Option<Row<K>>
     if !is_row(slot) {
         return None;
     }
-    let Some(amount) = amount_in::<K>(slot) else {
-        return None;
-    };
+    let amount = amount_in(slot)?;
     Some(Row {
         first: number(slot[0], slot[1]),
         width: number(slot[2], slot[3]),

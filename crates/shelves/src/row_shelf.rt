@@ -3,8 +3,7 @@ ghost use Rattle.std.specs.Prelude.{◌≡◌, length, slice_set};
 ghost use Rattle.shelves.specs.Slots.{over_rows, shown, shown_rows, Put, Read};
 
 use crate::row::{NoSuchSlot, Row};
-use crate::rows::is_mark;
-use crate::shelf::{OverRows, Shelf};
+use crate::shelf::Shelf;
 use kinds::Total;
 
 // One slot a row.
@@ -38,16 +37,8 @@ fn put_row<K: Total>(rows: &mut [Row<K>], slot: usize, row: Row<K>) -> Result<()
 fn read_row<K: Total>(rows: &[Row<K>], slot: usize) -> Result<Option<Row<K>>, NoSuchSlot>
     ensures { Read K.kind K.columns (shown_rows K.kind K.columns rows.now) slot result }
 {
-    if slot < rows.len() {
-        let row = rows[slot];
-        if is_mark(row.mark) {
-            Ok(Some(row))
-        } else {
-            Ok(None)
-        }
-    } else {
-        Err(NoSuchSlot)
-    }
+    let row = *rows.get(slot).ok_or(NoSuchSlot)?;
+    Ok(row.state().map(|_| row))
 }
 
 impl<'a, K: Total> Shelf<K> for RowShelf<'a, K> {
@@ -76,8 +67,9 @@ impl<'a, K: Total> Shelf<K> for RowShelf<'a, K> {
     }
 }
 
-impl<'a, K: Total> OverRows<'a, K> for RowShelf<'a, K> {
-    fn over(rows: &'a mut [Row<K>]) -> RowShelf<'a, K>
+impl<'a, K: Total> RowShelf<'a, K> {
+    // A shelf over lent rows.
+    pub fn over(rows: &'a mut [Row<K>]) -> RowShelf<'a, K>
         ensures slots { shown_rows K.kind K.columns result.rows.now ≡ shown_rows K.kind K.columns rows.old }
         ensures outside { over_rows result.rows ≡ over_rows rows.entry }
         ensures rows { result.rows ≡ rows.entry }

@@ -1,8 +1,8 @@
 // Capacities, slots that there are not, stretches at the ends of the days.
-use crate::plain::{Told, capacity, put, put_row, read, read_row, shown};
+use crate::plain::{Told, capacity, put, put_row, read, read_row};
 use crate::row;
 use kinds::{Cents, Mobile};
-use shelves::{ByteShelf, Mark, NoSuchSlot, OverBytes, Row, put_then_read};
+use shelves::{ByteShelf, Mark, NoSuchSlot, Row, Stretch, put_then_read};
 use std::test::Fail;
 
 #[test]
@@ -35,14 +35,14 @@ fn one_byte_short_is_no_slot(rt: HostRuntime) {
         put(&mut bytes, 0, row(0, 0, 0, Cents::new(0))),
         Err(NoSuchSlot)
     );
-    assert_eq!(rt; read::<Cents>(&mut bytes, 0), Told::NoSuchSlot);
+    assert_eq!(rt; read::<Cents>(&mut bytes, 0), Err(NoSuchSlot));
     assert_eq!(rt; bytes, [9u8; 15]);
 }
 
 #[test]
 fn no_rows_no_slots(rt: HostRuntime) {
     let mut rows: [Row<Cents>; 0] = [];
-    assert_eq!(rt; read_row(&mut rows, 0), Told::NoSuchSlot);
+    assert_eq!(rt; read_row(&mut rows, 0), Err(NoSuchSlot));
     assert_eq!(rt;
         put_row(&mut rows, 0, row(2, 2, 1, Cents::new(2))),
         Err(NoSuchSlot)
@@ -50,9 +50,9 @@ fn no_rows_no_slots(rt: HostRuntime) {
 }
 
 // Puts a row of cents and reads it back.
-fn put_back(bytes: &mut [u8], slot: usize, row: Row<Cents>) -> Told {
-    let mut shelf = ByteShelf::<Cents>::over(bytes);
-    shown(put_then_read(&mut shelf, slot, &row))
+fn put_back(bytes: &mut [u8], slot: usize, row: Row<Cents>) -> Told<Cents> {
+    let mut shelf = ByteShelf::over(bytes);
+    put_then_read(&mut shelf, slot, &row)
 }
 
 #[test]
@@ -61,24 +61,22 @@ fn a_put_leaves_the_others(rt: HostRuntime) -> Result<(), Fail> {
     put(&mut bytes, 0, row(1, 1, 0, Cents::new(1)))?;
     put(&mut bytes, 2, row(3, 3, 1, Cents::new(3)))?;
     let back = put_back(&mut bytes, 1, row(2, 2, 1, Cents::new(-2)));
-    assert_eq!(rt; back, Told::Row(2, 2, 1, Some(-2), None));
+    assert_eq!(rt; back, Ok(Some(row(2, 2, 1, Cents::new(-2)))));
     assert_eq!(rt;
         read::<Cents>(&mut bytes, 0),
-        Told::Row(1, 1, 0, Some(1), None)
+        Ok(Some(row(1, 1, 0, Cents::new(1))))
     );
     assert_eq!(rt;
         read::<Cents>(&mut bytes, 2),
-        Told::Row(3, 3, 1, Some(3), None)
+        Ok(Some(row(3, 3, 1, Cents::new(3))))
     );
-    assert_eq!(rt; read::<Cents>(&mut bytes, 3), Told::NoSuchSlot);
+    assert_eq!(rt; read::<Cents>(&mut bytes, 3), Err(NoSuchSlot));
     Ok(())
 }
 
 fn days(first: u16, width: u16) -> Option<(u16, u16)> {
-    match row(first, width, 0, Cents::new(0)).stretch() {
-        Some(stretch) => Some((stretch.first, stretch.width)),
-        None => None,
-    }
+    let Stretch { first, width, .. } = row(first, width, 0, Cents::new(0)).stretch()?;
+    Some((first, width))
 }
 
 #[test]
@@ -94,8 +92,8 @@ fn stretches_end_by_day_1000(rt: HostRuntime) {
 
 #[test]
 fn marks_have_numbers(rt: HostRuntime) {
-    assert_eq!(rt; Mark::In.number(), 0);
-    assert_eq!(rt; Mark::Out.number(), 1);
+    assert_eq!(rt; u8::from(Mark::In), 0);
+    assert_eq!(rt; u8::from(Mark::Out), 1);
     assert_eq!(rt; row(1, 1, 0, Cents::new(0)).state(), Some(Mark::In));
     assert_eq!(rt; row(1, 1, 1, Cents::new(0)).state(), Some(Mark::Out));
     assert_eq!(rt; row(1, 1, 2, Cents::new(0)).state(), None);

@@ -2,12 +2,11 @@
 ghost use Rattle.std.specs.Prelude.{◌≡◌, true, nat_le, unsigned_abs};
 ghost use Rattle.kinds.specs.Kinds.{Gives};
 ghost use Rattle.shelves_tests.specs.Few.{few};
-ghost use Rattle.std.proofs.Common.{rules, arith};
+ghost use Rattle.std.proofs.Common.{rules};
 
-use kinds::{OneColumn, Total};
-use std::cmp::Ordering;
+use kinds::{Name, OneColumn, Total};
 
-#[derive(Clone, Copy)]
+#[derive(Clone, Copy, PartialEq, Eq, PartialOrd, Ord, Debug)]
 pub struct Few {
     value: i64,
     ghost kept: { nat_le (unsigned_abs value) 5000000 ≡ true },
@@ -29,9 +28,11 @@ impl Total for Few {
 
     ghost columns = { λ x. x.value };
 
-    ghost lawful = { first_of (Prim.search rules, Prim.grind (arith, Self.row.coded.inj)) };
+    ghost lawful = { Prim.search rules };
 
-    ghost held = { first_of (Prim.search rules, Prim.grind (arith, Self.row.coded.inj)) };
+    ghost held = { Prim.search rules };
+
+    ghost ordered = { Prim.search rules };
 
     fn zero() -> Few {
         Few { value: 0 }
@@ -49,29 +50,19 @@ impl Total for Few {
         number(self.value - other.value)
     }
 
-    fn compare(self, other: Few) -> Ordering {
-        if self.value < other.value {
-            Ordering::Less
-        } else if other.value < self.value {
-            Ordering::Greater
-        } else {
-            Ordering::Equal
-        }
-    }
-
     fn column(self, number: u8) -> Option<i64> {
-        if number == 1 { Some(self.value) } else { None }
+        (number == 1).then_some(self.value)
     }
 
     fn replace(self, column: u8, value: i64) -> Option<Few> {
         if column == 1 { number(value) } else { None }
     }
 
-    fn name(number: u8) -> u8 {
-        if number == 1 { 1 } else { 0 }
+    fn name(number: u8) -> Option<Name> {
+        (number == 1).then_some(Name::Cents)
     }
 }
 
 impl OneColumn for Few {
-    ghost single = { first_of (Prim.search rules, Prim.grind (arith, Self.row.coded.inj)) };
+    ghost single = { Prim.search rules };
 }

@@ -1,5 +1,5 @@
 // Rows in bytes that were written out by hand.
-use crate::plain::{Told, put, read};
+use crate::plain::{put, read};
 use crate::{mobile, row};
 use kinds::{Cents, Mobile};
 use std::test::Fail;
@@ -27,14 +27,14 @@ fn one_column_is_read(rt: HostRuntime) {
     let mut bytes = PAPER;
     assert_eq!(rt;
         read::<Cents>(&mut bytes, 0),
-        Told::Row(258, 3, 1, Some(-5), None)
+        Ok(Some(row(258, 3, 1, Cents::new(-5))))
     );
 }
 
 #[test]
 fn two_columns_are_read(rt: HostRuntime) {
     let mut bytes = MOBILE;
-    let row = Told::Row(1, 1000, 0, Some(1_000_000_000_000), Some(-2));
+    let row = Ok(Some(row(1, 1000, 0, mobile(1_000_000_000_000, -2))));
     assert_eq!(rt; read::<Mobile>(&mut bytes, 0), row);
 }
 
@@ -63,7 +63,7 @@ fn the_least_number(rt: HostRuntime) -> Result<(), Fail> {
     let mut bytes = [7u8; 16];
     put(&mut bytes, 0, row(65535, 65535, 0, Cents::new(i64::MIN)))?;
     assert_eq!(rt; bytes, LEAST);
-    let row = Told::Row(65535, 65535, 0, Some(i64::MIN), None);
+    let row = Ok(Some(row(65535, 65535, 0, Cents::new(i64::MIN))));
     assert_eq!(rt; read::<Cents>(&mut bytes, 0), row);
     Ok(())
 }
@@ -75,7 +75,7 @@ fn the_greatest_number(rt: HostRuntime) -> Result<(), Fail> {
     assert_eq!(rt; bytes, MOST);
     assert_eq!(rt;
         read::<Cents>(&mut bytes, 0),
-        Told::Row(0, 0, 1, Some(i64::MAX), None)
+        Ok(Some(row(0, 0, 1, Cents::new(i64::MAX))))
     );
     Ok(())
 }

@@ -2,12 +2,11 @@
 ghost use Rattle.std.specs.Prelude.{◌≡◌, slice_set};
 ghost use Rattle.shelves.specs.Bytes.{past, shown_bytes};
 ghost use Rattle.shelves.specs.Slots.{shown, shown_rows};
-ghost use Rattle.kinds.specs.Wholes.{paper};
 
-use crate::plain::{Told, read, read_row};
+use crate::plain::{read, read_row};
 use crate::row;
 use kinds::{Cents, Total};
-use shelves::{ByteShelf, OverBytes, OverRows, Row, RowShelf, Shelf};
+use shelves::{ByteShelf, Row, RowShelf, Shelf};
 
 // Puts a row into the first two slots, as far as there are such slots.
 fn fill<K: Total, S: Shelf<K>>(shelf: &mut S, row: &Row<K>)
@@ -25,17 +24,17 @@ fn fill_rows<K: Total>(rows: &mut [Row<K>], row: &Row<K>)
     fill(&mut shelf, row);
 }
 
-fn fill_bytes(bytes: &mut [u8], row: &Row<Cents>)
-    ensures slots { shown_bytes paper bytes.new ≡ slice_set (slice_set (shown_bytes paper bytes.old) 0 (shown paper (λ x. x.value) row.now)) 1 (shown paper (λ x. x.value) row.now) }
-    ensures past { past paper bytes.new ≡ past paper bytes.old }
+fn fill_bytes<K: Total>(bytes: &mut [u8], row: &Row<K>)
+    ensures slots { shown_bytes K.kind bytes.new ≡ slice_set (slice_set (shown_bytes K.kind bytes.old) 0 (shown K.kind K.columns row.now)) 1 (shown K.kind K.columns row.now) }
+    ensures past { past K.kind bytes.new ≡ past K.kind bytes.old }
 {
-    let mut shelf = ByteShelf::<Cents>::over(bytes);
+    let mut shelf = ByteShelf::over(bytes);
     fill(&mut shelf, row);
 }
 
 #[test]
 fn both_are_filled(rt: HostRuntime) {
-    let filled = Told::Row(2, 3, 1, Some(4), None);
+    let filled = Ok(Some(row(2, 3, 1, Cents::new(4))));
     let mut rows = [row(0, 0, 0, Cents::new(0)); 2];
     fill_rows(&mut rows, &row(2, 3, 1, Cents::new(4)));
     assert_eq!(rt; read_row(&mut rows, 1), filled);

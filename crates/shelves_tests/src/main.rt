@@ -15,7 +15,7 @@ mod lending;
 mod plain;
 
 use kinds::{Cents, Mobile, Pair, Pieces, Total};
-use shelves::{ByteShelf, OverBytes, OverRows, Row, RowShelf, Shelf};
+use shelves::{ByteShelf, Row, RowShelf, Shelf};
 use std::io;
 
 // Puts the rows from slot 0 on, then reads every slot and the one past the last.
@@ -39,9 +39,12 @@ fn walk<K: Total, S: Shelf<K>>(rt: &impl Print, shelf: &mut S, rows: &[Row<K>]) 
 }
 
 fn show<K: Total>(rt: &impl Print, slot: usize, row: &Row<K>) -> io::Result<()> {
-    let first = row.first;
-    let width = row.width;
-    let mark = row.mark;
+    let Row {
+        first,
+        width,
+        mark,
+        ..
+    } = row;
     print!(rt; "slot {slot}: {width}@{first}, mark {mark}")?;
     for number in 1..=2u8 {
         if let Some(value) = row.amount.column(number) {

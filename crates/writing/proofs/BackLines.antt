@@ -4,7 +4,9 @@ use Rattle.std.proofs.lemmas.Fmt.{digits_decimal}
 use Rattle.std.proofs.lemmas.Bool.{and_parts, and_from, not_from_false, ne_eqb, leb-true, true≢false}
 use Rattle.std.specs.Fmt.{signed_decimal}
 use Rattle.kinds.specs.Columns.{Arity, one, two, Each, All, Columns}
-use Rattle.kinds.specs.Kinds.{Name, cents, pieces, code}
+use Rattle.kinds.specs.declared.name.Name.{Name}
+use Rattle.kinds.specs.declared.name.Name.TheVariants.{Cents as cents, Pieces as pieces}
+use Rattle.kinds.specs.Kinds.{code}
 use Rattle.figures.specs.declared.heading.Heading.{Heading}
 use Rattle.figures.specs.declared.heading.Heading.TheVariants.{Day, Cents, Pieces, Pulse, Width, First, State, Refusal, Line, Byte}
 use Rattle.writer.specs.declared.value.Value.{Value}

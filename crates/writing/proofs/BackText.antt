@@ -6,7 +6,9 @@ use Rattle.std.proofs.lemmas.List.{length-append, take_at}
 use Rattle.std.proofs.lemmas.Bool.{and_parts, and_from, eq-eqb, le-ltb, le-leb, leb-true, ltb-true, ltb-false}
 use Rattle.std.specs.Fmt.{signed_decimal}
 use Rattle.kinds.specs.Columns.{Arity, one, two, Each, All, Columns, times, within, fits64}
-use Rattle.kinds.specs.Kinds.{Name, cents, pieces, Kind, Of, Lawful}
+use Rattle.kinds.specs.declared.name.Name.{Name}
+use Rattle.kinds.specs.declared.name.Name.TheVariants.{Cents as cents, Pieces as pieces}
+use Rattle.kinds.specs.Kinds.{Kind, Of, Lawful}
 use Rattle.figures.specs.declared.heading.Heading.{Heading}
 use Rattle.figures.specs.declared.heading.Heading.TheVariants.{Day}
 use Rattle.writer.specs.declared.value.Value.TheVariants.{Count, Amount}
