@@ -4,68 +4,57 @@ ghost use Rattle.transform.specs.Theory.{WidthsAndAmounts, PulsesSumToTheRecord,
 ghost use Rattle.transform.specs.Theory.{AtMostAsManyPulsesAsDays, DifferentChoicesDiffer, PulsesHaveDaysOfTheirOwn, SwingsBalance};
 ghost use Rattle.transform.specs.Theory.{SumsStayInRange, WindowsLevelRuns, SmoothsAreSmooth, RunsMakeTheSmooths};
 
-pub fn widths_and_amounts() -> u8
+pub fn widths_and_amounts()
     ensures { WidthsAndAmounts }
 {
-    0
 }
 
-pub fn pulses_sum_to_the_record() -> u8
+pub fn pulses_sum_to_the_record()
     ensures { PulsesSumToTheRecord }
 {
-    0
 }
 
-pub fn wider_pulses_sum_to_the_smooth() -> u8
+pub fn wider_pulses_sum_to_the_smooth()
     ensures { WiderPulsesSumToTheSmooth }
 {
-    0
 }
 
-pub fn at_most_as_many_pulses_as_days() -> u8
+pub fn at_most_as_many_pulses_as_days()
     ensures { AtMostAsManyPulsesAsDays }
 {
-    0
 }
 
-pub fn different_choices_differ() -> u8
+pub fn different_choices_differ()
     ensures { DifferentChoicesDiffer }
 {
-    0
 }
 
-pub fn pulses_have_days_of_their_own() -> u8
+pub fn pulses_have_days_of_their_own()
     ensures { PulsesHaveDaysOfTheirOwn }
 {
-    0
 }
 
-pub fn swings_balance() -> u8
+pub fn swings_balance()
     ensures { SwingsBalance }
 {
-    0
 }
 
-pub fn sums_stay_in_range() -> u8
+pub fn sums_stay_in_range()
     ensures { SumsStayInRange }
 {
-    0
 }
 
-pub fn windows_level_runs() -> u8
+pub fn windows_level_runs()
     ensures { WindowsLevelRuns }
 {
-    0
 }
 
-pub fn smooths_are_smooth() -> u8
+pub fn smooths_are_smooth()
     ensures { SmoothsAreSmooth }
 {
-    0
 }
 
-pub fn runs_make_the_smooths() -> u8
+pub fn runs_make_the_smooths()
     ensures { RunsMakeTheSmooths }
 {
-    0
 }
