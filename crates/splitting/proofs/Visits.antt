@@ -1,5 +1,5 @@
 -- What a visit of a mark leaves.
-use Rattle.std.proofs.Common.{◌≡◌, ℕ, suc, ◌+◌, ◌-◌, ◌<◌, ◌≤◌, Bool, true, ◌⊎◌, [], ◌∷◌, ◌++◌, length, sym, refl, ap, ◌∙◌, inl, inr, arith}
+use Rattle.std.proofs.Common.{◌≡◌, ℕ, suc, ◌+◌, ◌-◌, ◌<◌, ◌≤◌, true, ◌⊎◌, [], ◌∷◌, ◌++◌, length, sym, refl, ap, ◌∙◌, inl, inr, arith}
 use Rattle.std.proofs.lemmas.Bool.{cases_lt}
 use Rattle.kinds.specs.Columns.{within}
 use Rattle.kinds.specs.Kinds.{Kind, Of, Lawful}
@@ -11,6 +11,7 @@ use Rattle.transform.proofs.Smooths.{Outside, trace_outside}
 use Rattle.transform.proofs.Listing.{Pass, lowering, change_is}
 use Rattle.transform.proofs.Endings.{L_among}
 use Rattle.splitting.specs.declared.levelling.Fate.TheVariants.{Levelled, Kept, Dropped}
+use Rattle.splitting.specs.declared.levelling.Aim.{Aim}
 use Rattle.splitting.specs.Work.{View, with_mark}
 use Rattle.splitting.specs.Runs.{Run, Turn}
 use Rattle.splitting.specs.Passes.{aimed, spliced, Stage, Midway, Visiting, FateOf, nearest, Relaid, Marked, bump_pulse}
@@ -19,28 +20,28 @@ use Rattle.splitting.proofs.Runs.{run_same, same_or_not}
 use Rattle.splitting.proofs.Splices.{spliced_upto, spliced_past, spliced_outside, turn_within, turn_run, bump_there_same}
 use Rattle.splitting.proofs.Passes.{known_left, known_right, run_bump, in_turn_none, in_turn_one, marked_run, run_dropped, run_kept, no_bump, the_bump, none_before, none_after, levelled_same, levelled_marked}
 
-pub stage_outside : (K : Kind) (down : Bool) (days : ℕ) (b : Record K) → length b ≡ days → Outside (aimed K down) days (trace K b)
-stage_outside K down days b q = rw q at (trace_outside K b)
+pub stage_outside : (K : Kind) (aim : Aim) (days : ℕ) (b : Record K) → length b ≡ days → Outside (aimed K aim) days (trace K b)
+stage_outside K aim days b q = rw q at (trace_outside K b)
 
-pub stage_pass : (K : Kind) → Lawful K → (down : Bool) (n : ℕ) (b a : Record K) → Stage K down n b a → Pass K (aimed K down).below n b a
-stage_pass K O down n b a S = record { lawful = aimed_lawful K O down; some = S.some; apart = S.apart; levels = S.levels }
+pub stage_pass : (K : Kind) → Lawful K → (aim : Aim) (n : ℕ) (b a : Record K) → Stage K aim n b a → Pass K (aimed K aim).below n b a
+stage_pass K O aim n b a S = record { lawful = aimed_lawful K O aim; some = S.some; apart = S.apart; levels = S.levels }
 
 -- every total in mid-pass may be entered
-pub entered_midway : (K : Kind) → Lawful K → (down : Bool) (n : ℕ) (b a : Record K) → Stage K down n b a → (r d : ℕ) → within K.arity K.bound (spliced (aimed K down) n (trace K b) r d) ≡ true
-entered_midway K O down n b a S r d = elim (cases_lt r d) [
-  | inl h ↦ rw (spliced_past (aimed K down) n (trace K b) r d h) (S.entered d)
-  | inr h ↦ rw (spliced_upto (aimed K down) n (trace K b) r d h) (L_among (aimed K down) (aimed_lawful K O down) (λ v. within K.arity K.bound v ≡ true) n (trace K b) S.entered d)
+pub entered_midway : (K : Kind) → Lawful K → (aim : Aim) (n : ℕ) (b a : Record K) → Stage K aim n b a → (r d : ℕ) → within K.arity K.bound (spliced (aimed K aim) n (trace K b) r d) ≡ true
+entered_midway K O aim n b a S r d = elim (cases_lt r d) [
+  | inl h ↦ rw (spliced_past (aimed K aim) n (trace K b) r d h) (S.entered d)
+  | inr h ↦ rw (spliced_upto (aimed K aim) n (trace K b) r d h) (L_among (aimed K aim) (aimed_lawful K O aim) (λ v. within K.arity K.bound v ≡ true) n (trace K b) S.entered d)
 ]
 
-module _ (K : Kind) (O : Lawful K) (down : Bool) (n days : ℕ) (v : View (Of K)) (kept r s : ℕ) (b a : Record K) (i hi : ℕ) (V : Visiting K down n days v kept r s b a i hi) where
+module _ {K : Kind} (O : Lawful K) {aim : Aim} {n days : ℕ} {v : View (Of K)} {kept r s : ℕ} {b a : Record K} {i hi : ℕ} (V : Visiting K aim n days v kept r s b a i hi) where
   abbrev J : Kind
-  J = aimed K down
+  J = aimed K aim
 
   P : Lawful J
-  P = aimed_lawful K O down
+  P = aimed_lawful K O aim
 
   out : Outside J days (trace K b)
-  out = stage_outside K down days b V.size
+  out = stage_outside K aim days b V.size
 
   abbrev z : Trace J
   z = spliced J n (trace K b) r
@@ -75,17 +76,17 @@ module _ (K : Kind) (O : Lawful K) (down : Bool) (n days : ℕ) (v : View (Of K)
   other_right h = (behind h).1.end
 
   pub entered_here : within K.arity K.bound (v.total s) ≡ true
-  entered_here = rw found.0 (entered_midway K O down n b a V.stage r s)
+  entered_here = rw found.0 (entered_midway K O aim n b a V.stage r s)
 
   pub entered_left : within K.arity K.bound (v.total (s - 1)) ≡ true
-  entered_left = rw beside.0 (entered_midway K O down n b a V.stage r (s - 1))
+  entered_left = rw beside.0 (entered_midway K O aim n b a V.stage r (s - 1))
 
   pub entered_right : v.other s ≤ days → within K.arity K.bound (v.total (v.other s + 1)) ≡ true
-  entered_right h = rw (behind h).0 (entered_midway K O down n b a V.stage r (suc (v.other s)))
+  entered_right h = rw (behind h).0 (entered_midway K O aim n b a V.stage r (suc (v.other s)))
 
   -- no pulse is listed for days on which no bump begins
   unlisted : (c : ℕ) → (Bump J (trace K b) c n → ⊥) → change K b a (suc c) ≡ []
-  unlisted c none = elim (change_is K O (aimed K down).below n b a (stage_pass K O down n b a V.stage) c) [
+  unlisted c none = elim (change_is K O (aimed K aim).below n b a (stage_pass K O aim n b a V.stage) c) [
     | inl (B, q) ↦ absurd (none B)
     | inr (f, q) ↦ q
   ]
@@ -121,12 +122,12 @@ module _ (K : Kind) (O : Lawful K) (down : Bool) (n days : ℕ) (v : View (Of K)
       rw (beside.0, found.0, (behind p.0).0) (rw i1 at B.rises, rw (i2, i1) at B.falls)
 
   -- the mark is dropped
-  module _ (F : FateOf (aimed K down) days n s (v.other s) (v.total (s - 1)) (v.total s) (v.total (v.other s + 1)) Dropped) where
+  module _ (F : FateOf (aimed K aim) days n s (v.other s) (v.total (s - 1)) (v.total s) (v.total (v.other s + 1)) Dropped) where
     no_turn : (w : ℕ) → Turn J z (s - 1) w → ⊥
     no_turn w (inl B) = let t = tested_bump w B in (F (placed w (inl B)).0).0 t.0 t.1
     no_turn w (inr B) = let t = tested_pit w B in (F (placed w (inr B)).0).1 t.0 t.1
 
-    pub visit_dropped : Midway (aimed K down) n (suc days) (trace K b) v (suc i) hi kept (v.other s)
+    pub visit_dropped : Midway (aimed K aim) n (suc days) (trace K b) v (suc i) hi kept (v.other s)
     visit_dropped =
         run_dropped J P n days V.stage.some (trace K b) V.stage.apart out v i hi kept r V.mid s e V.here V.marked V.past found.1
         (λ B. no_turn n (inl B)) no_turn
@@ -135,11 +136,11 @@ module _ (K : Kind) (O : Lawful K) (down : Bool) (n days : ℕ) (v : View (Of K)
     dropped_none = none_listed (no_bump J P n days V.stage.some (trace K b) V.stage.apart out v i hi kept r V.mid s e V.here V.marked V.past found.1 (λ B. no_turn n (inl B)))
 
   -- it is kept
-  module _ (F : FateOf (aimed K down) days n s (v.other s) (v.total (s - 1)) (v.total s) (v.total (v.other s + 1)) Kept) where
+  module _ (F : FateOf (aimed K aim) days n s (v.other s) (v.total (s - 1)) (v.total s) (v.total (v.other s + 1)) Kept) where
     not_levelled : Bump J z (s - 1) n → ⊥
     not_levelled B = let t = tested_bump n B in F t.0 t.1 (placed n (inl B)).1
 
-    pub visit_kept : Midway (aimed K down) n (suc days) (trace K b) (with_mark v kept s) (suc i) hi (suc kept) (v.other s)
+    pub visit_kept : Midway (aimed K aim) n (suc days) (trace K b) (with_mark v kept s) (suc i) hi (suc kept) (v.other s)
     visit_kept =
         run_kept J P n days V.stage.some (trace K b) V.stage.apart out v i hi kept r V.mid s e V.here V.marked V.past found.1 not_levelled
 
@@ -147,10 +148,10 @@ module _ (K : Kind) (O : Lawful K) (down : Bool) (n days : ℕ) (v : View (Of K)
     kept_none = none_listed (no_bump J P n days V.stage.some (trace K b) V.stage.apart out v i hi kept r V.mid s e V.here V.marked V.past found.1 not_levelled)
 
   -- its run is levelled
-  module _ (F : FateOf (aimed K down) days n s (v.other s) (v.total (s - 1)) (v.total s) (v.total (v.other s + 1)) Levelled)
-      (u w : View (Of K)) (s' e' kept' : ℕ) (E : Relaid (aimed K down) v u s (v.other s) s' e') (G : Marked u w kept s' kept') where
+  module _ (F : FateOf (aimed K aim) days n s (v.other s) (v.total (s - 1)) (v.total s) (v.total (v.other s + 1)) Levelled)
+      {u w : View (Of K)} {s' e' kept' : ℕ} (E : Relaid (aimed K aim) v u s (v.other s) s' e') (G : Marked u w kept s' kept') where
     abbrev t : Of K
-    t = nearest (aimed K down) v s (v.other s)
+    t = nearest (aimed K aim) v s (v.other s)
 
     up : Below J (z (s - 1)) (z s)
     up = rw (beside.0, found.0) at F.1
@@ -174,7 +175,7 @@ module _ (K : Kind) (O : Lawful K) (down : Bool) (n days : ℕ) (v : View (Of K)
       | inr q ↦ inr (q, E.right.1 (λ p. q (sym (behind F.0).0 ∙ p)))
     ]
 
-    pub visit_levelled : Midway (aimed K down) n (suc days) (trace K b) w (suc i) hi kept' e'
+    pub visit_levelled : Midway (aimed K aim) n (suc days) (trace K b) w (suc i) hi kept' e'
     visit_levelled = elim G [
       | inl (p, q, m) ↦ rw (p, q, E.written)
           (levelled_same J P n days V.stage.some (trace K b) V.stage.apart out v i hi kept r V.mid s e V.here V.marked V.past found.1 F.3 up falls s' e' t t_is lefts rights (rw E.written at m))
@@ -194,7 +195,7 @@ module _ (K : Kind) (O : Lawful K) (down : Bool) (n days : ℕ) (v : View (Of K)
         bump_there_same J P n days (trace K b) V.stage.apart out r V.mid.clear (s - 1) (omega arith)
         (run_bump J (suc days) n z s e found.1 visit_starts F.3 up falls)
 
-    the_pulse : lowering K (aimed K down).below n (trace K b) (s - 1) ≡ bump_pulse K down v n s (v.other s)
+    the_pulse : lowering K (aimed K aim).below n (trace K b) (s - 1) ≡ bump_pulse K aim v n s (v.other s)
     unfolding higher
     the_pulse =
         let f = visit_starts in
@@ -203,17 +204,17 @@ module _ (K : Kind) (O : Lawful K) (down : Bool) (n days : ℕ) (v : View (Of K)
         let o = found.1.order in
         rw (i1, i2, beside.0, found.0, (behind F.0).0, as_there (s - 1) (omega arith), as_there s (omega arith), as_there (suc e) (omega arith)) refl
 
-    pub levelled_one : in_turn e' (change K b a) ≡ in_turn r (change K b a) ++ bump_pulse K down v n s (v.other s) ∷ []
+    pub levelled_one : in_turn e' (change K b a) ≡ in_turn r (change K b a) ++ bump_pulse K aim v n s (v.other s) ∷ []
     levelled_one =
         let f = visit_starts in
         let g = V.past in
         let o = found.1.order in
         let i1 : suc (s - 1) ≡ s = omega arith in
-        let here : change K b a s ≡ bump_pulse K down v n s (v.other s) ∷ [] = elim (change_is K O (aimed K down).below n b a (stage_pass K O down n b a V.stage) (s - 1)) [
+        let here : change K b a s ≡ bump_pulse K aim v n s (v.other s) ∷ [] = elim (change_is K O (aimed K aim).below n b a (stage_pass K O aim n b a V.stage) (s - 1)) [
           | inl (B, q) ↦ ap (change K b a) (sym i1) ∙ (q ∙ ap (λ p. p ∷ []) the_pulse)
           | inr (h, q) ↦ absurd (h there)
         ] in
         in_turn_none (change K b a) s e' (let q = reaches in omega arith) (λ c h l. unlisted c (none_after J P n days V.stage.some (trace K b) V.stage.apart out v i hi kept r V.mid s e V.here V.marked V.past found.1 F.3 up falls s' e' t t_is lefts rights c h l)) ∙
         (in_turn_one (change K b a) s f ∙
-        (rw here (ap (λ l. l ++ bump_pulse K down v n s (v.other s) ∷ [])
+        (rw here (ap (λ l. l ++ bump_pulse K aim v n s (v.other s) ∷ [])
         (in_turn_none (change K b a) r (s - 1) (omega arith) (λ c h l. unlisted c (none_before J P n days V.stage.some (trace K b) V.stage.apart out v i hi kept r V.mid s e V.here V.marked V.past found.1 F.3 up falls s' e' t t_is lefts rights c h l))))))

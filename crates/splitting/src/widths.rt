@@ -4,7 +4,7 @@ ghost use Rattle.transform.specs.Pulses.{pulses};
 ghost use Rattle.splitting.specs.Records.{Accepted, laid};
 
 use crate::layout::build;
-use crate::levelling::{bumps, level_width, pits};
+use crate::levelling::{Aim, Pass};
 use crate::work::WorkEntry;
 use kinds::Total;
 use shelves::Shelf;
@@ -24,13 +24,22 @@ pub(crate) fn split_widths<K: Total, S: Shelf<K>>(
     let days = totals.len();
     let mut marks = build(totals, work);
     let mut rows = 0usize;
-    for done in 0..days {
+    for width in 1..=days {
         if marks == 0 {
             return rows;
         }
-        let width = done + 1;
-        let up = level_width(work, shelf, days, marks, rows, bumps(width));
-        let down = level_width(work, shelf, days, up.kept, up.rows, pits(width));
+        let bumps = Pass {
+            days,
+            width,
+            aim: Aim::Bumps,
+        };
+        let pits = Pass {
+            days,
+            width,
+            aim: Aim::Pits,
+        };
+        let up = bumps.level_width(work, shelf, marks, rows);
+        let down = pits.level_width(work, shelf, up.kept, up.rows);
         marks = down.kept;
         rows = down.rows;
     }

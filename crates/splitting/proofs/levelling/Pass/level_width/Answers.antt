@@ -4,11 +4,11 @@ use Rattle.splitting.proofs.Aims.{aimed_lawful}
 use Rattle.splitting.proofs.Passes.{skipped}
 use Rattle.splitting.proofs.Visits.{stage_outside}
 use Rattle.splitting.proofs.Sweeps.{added_none, added_then, added_all, ready_midway, done_knows, done_marks, done_list}
-use Rattle.splitting.proofs.levelling.level_width.Goals as goal
-use Rattle.splitting.proofs.levelling.level_width.Goals.{then-first-at, else-first-at}
+use Rattle.splitting.proofs.levelling.Pass.level_width.Goals as goal
+use Rattle.splitting.proofs.levelling.Pass.level_width.Goals.{then-first-at, else-first-at}
 
 pub loop-number-init : goal.loop-number-init
-loop-number-init g c = (λ b a R. (ready_midway _ g.met.K.Total.lawful _ _ _ _ _ b a R, added_none _ _ _ _ _), omega arith, refl)
+loop-number-init g c = (λ b a R. (ready_midway g.met.K.Total.lawful R, added_none _ _ _ _ _), omega arith, refl)
 
 pub mark_at-first-requires : goal.mark_at-first-requires
 mark_at-first-requires g c = omega (arith, c.requires.stands.2.few)
@@ -20,7 +20,6 @@ visit-at-requires g c =
     let n = c.loop-number.invariant.1 in
     record {
       room = omega arith;
-      few = c.requires.few;
       rows = omega arith;
       stands = (
         c.requires.stands.0,
@@ -58,7 +57,7 @@ loop-number-preserved g c =
                   marked = sym c.mark_at-first.ensures;
                   past = w.if-first-at.true;
                 }) in
-                (rw e S.0, added_then _ _ _ _ _ _ _ _ _ _ _ I.1 S.1),
+                (rw e S.0, added_then I.1 S.1),
             omega arith,
             w.visit-at.ensures.outside ∙ c.loop-number.invariant.2,
           )
@@ -69,7 +68,7 @@ loop-number-preserved g c =
                 let I = c.loop-number.invariant.0 b a R in
                 let l = w.if-first-at.false in
                 let q = c.mark_at-first.ensures in (
-                  rw e (skipped (aimed g.K.Total.kind c.args.pass.down) (aimed_lawful _ g.met.K.Total.lawful c.args.pass.down) _ _ R.stage.some _ R.stage.apart (stage_outside _ c.args.pass.down _ b R.size) _ _ _ _ _ I.0 c.loop-number-test.true (omega arith)),
+                  rw e (skipped (aimed g.K.Total.kind c.args.self.aim) (aimed_lawful _ g.met.K.Total.lawful c.args.self.aim) _ _ R.stage.some _ R.stage.apart (stage_outside _ c.args.self.aim _ b R.size) _ _ _ _ _ I.0 c.loop-number-test.true (omega arith)),
                   I.1,
                 ),
             omega arith,
@@ -86,10 +85,10 @@ returns g c =
           let l = c.loop-number-test.false in
           let f = R.few in
           let k = I.0.behind in
-          let A = added_all _ _ _ _ _ _ _ _ (done_list _ O _ _ _ _ _ b a R _ _ _ _ I.0 l) I.1 in
+          let A = added_all _ (done_list O R I.0 l) I.1 in
           record {
-            knows = done_knows _ O _ _ _ _ _ b a R _ _ _ _ I.0 l;
-            marked = done_marks _ O _ _ _ _ _ b a R _ _ _ _ I.0 l;
+            knows = done_knows O R I.0 l;
+            marked = done_marks O R I.0 l;
             few = omega arith;
             put = A.0;
             count = A.1;
