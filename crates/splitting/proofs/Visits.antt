@@ -14,7 +14,7 @@ use Rattle.splitting.specs.declared.levelling.Fate.TheVariants.{Levelled, Kept, 
 use Rattle.splitting.specs.declared.levelling.Aim.{Aim}
 use Rattle.splitting.specs.Work.{View, with_mark}
 use Rattle.splitting.specs.Runs.{Run, Turn}
-use Rattle.splitting.specs.Passes.{aimed, spliced, Stage, Midway, Visiting, FateOf, nearest, Relaid, Marked, bump_pulse}
+use Rattle.splitting.specs.Passes.{aimed, spliced, Stage, Midway, Ready, Visiting, FateOf, nearest, Relaid, Marked, bump_pulse}
 use Rattle.splitting.proofs.Aims.{aimed_lawful}
 use Rattle.splitting.proofs.Runs.{run_same, same_or_not}
 use Rattle.splitting.proofs.Splices.{spliced_upto, spliced_past, spliced_outside, turn_within, turn_run, bump_there_same}
@@ -32,6 +32,11 @@ entered_midway K O aim n b a S r d = elim (cases_lt r d) [
   | inl h ↦ rw (spliced_past (aimed K aim) n (trace K b) r d h) (S.entered d)
   | inr h ↦ rw (spliced_upto (aimed K aim) n (trace K b) r d h) (L_among (aimed K aim) (aimed_lawful K O aim) (λ v. within K.arity K.bound v ≡ true) n (trace K b) S.entered d)
 ]
+
+-- a mark of a pass that lies after the days dealt with is to be visited
+pub to_visit : {K : Kind} {aim : Aim} {n days : ℕ} {v w : View (Of K)} {marks kept r s i : ℕ} {b a : Record K} →
+    Ready K aim n days v marks b a → Midway (aimed K aim) n (suc days) (trace K b) w i marks kept r → i < marks → s ≡ w.mark i → r < s → Visiting K aim n days w kept r s b a i marks
+to_visit R M h q p = record { size = R.size; stage = R.stage; mid = M; here = h; few = R.few; marked = sym q; past = p }
 
 module _ {K : Kind} (O : Lawful K) {aim : Aim} {n days : ℕ} {v : View (Of K)} {kept r s : ℕ} {b a : Record K} {i hi : ℕ} (V : Visiting K aim n days v kept r s b a i hi) where
   abbrev J : Kind

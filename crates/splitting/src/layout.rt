@@ -24,7 +24,9 @@ impl<K: Total> Layout<K> {
         requires first_le_day { self.first ≤ day }
         requires marks_le_day { self.marks ≤ day }
         requires day_in_bounds { day < length work.old }
-        ensures { (m : ℕ) (x : ℕ → Of K.kind) → Laid m x (view K.kind K.columns work.old) self.first self.marks day → K.columns self.total ≡ x self.first → K.columns total ≡ x (suc day) → suc day ≤ m → Laid m x (view K.kind K.columns work.new) result.first result.marks (suc day) × (K.columns result.total ≡ x result.first) }
+        ensures laid { (m : ℕ) (x : ℕ → Of K.kind) → Laid m x (view K.kind K.columns work.old) self.first self.marks day → K.columns self.total ≡ x self.first → K.columns total ≡ x (suc day) → suc day ≤ m → Laid m x (view K.kind K.columns work.new) result.first result.marks (suc day) × (K.columns result.total ≡ x result.first) }
+        ensures first { result.first ≤ suc day }
+        ensures marks { result.marks ≤ suc day }
     {
         if same(self.total, total) {
             return self;

@@ -73,13 +73,20 @@ enum Fate {
     Dropped,
 }
 
+// How many marks and how many rows there are.
+#[derive(Clone, Copy)]
+pub(crate) struct Counts {
+    pub marks: usize,
+    pub rows: usize,
+}
+
 // Where a pass stands: how many marks it has kept, the last day that it has dealt with, and how many
 // rows there are.
 #[derive(Clone, Copy)]
-pub(crate) struct Progress {
-    pub kept: usize,
-    pub reached: usize,
-    pub rows: usize,
+struct Progress {
+    kept: usize,
+    reached: usize,
+    rows: usize,
 }
 
 // A pass over a record of so many days. Work list and shelf are lent at each call.
@@ -98,28 +105,30 @@ impl Pass {
         self,
         work: &mut [WorkEntry<K>],
         shelf: &mut S,
-        marks: usize,
-        rows: usize,
-    ) -> Progress
+        start: Counts,
+    ) -> Counts
         requires room { self.days + 2 ≤ length work.old }
-        requires rows { rows ≤ self.days }
-        requires stands { (b : Record K.kind) × (a : Record K.kind) × Ready K.kind self.aim self.width self.days (view K.kind K.columns work.old) marks b a }
-        ensures stands { (b a : Record K.kind) → Ready K.kind self.aim self.width self.days (view K.kind K.columns work.old) marks b a → Swept K.kind self.aim self.days (view K.kind K.columns work.new) result.kept b a rows result.rows (S.slots shelf.old) (S.slots shelf.new) }
+        requires rows { start.rows ≤ self.days }
+        requires stands { (b : Record K.kind) × (a : Record K.kind) × Ready K.kind self.aim self.width self.days (view K.kind K.columns work.old) start.marks b a }
+        ensures stands { (b a : Record K.kind) → Ready K.kind self.aim self.width self.days (view K.kind K.columns work.old) start.marks b a → Swept K.kind self.aim self.days (view K.kind K.columns work.new) result.marks b a start.rows result.rows (S.slots shelf.old) (S.slots shelf.new) }
         ensures outside { S.outside shelf.new ≡ S.outside shelf.old }
     {
         let mut at = Progress {
             kept: 0,
             reached: 0,
-            rows,
+            rows: start.rows,
         };
         // Stays a loop over numbers: the marks are written while they are read.
-        for number in 0..marks {
+        for number in 0..start.marks {
             let first = mark_at(work, number);
             if first > at.reached {
                 at = self.visit(work, shelf, first, at);
             }
         }
-        at
+        Counts {
+            marks: at.kept,
+            rows: at.rows,
+        }
     }
 
     // One marked run in the pass.
@@ -221,8 +230,8 @@ impl Pass {
         let left = total_at(work, run.first - 1);
         let right = total_at(work, run.last + 1);
         let total = self.aim.nearer(left, right);
-        let first = joined(work, left, total, run.first - 1, run.first);
-        let last = joined(work, right, total, run.last + 1, run.last);
+        let first = joined(work, total, run.first - 1, run.first);
+        let last = joined(work, total, run.last + 1, run.last);
         set_run(work, first, last, total);
         (first, last)
     }
@@ -243,17 +252,11 @@ fn row_in<K: Total>(first: usize, width: usize, amount: K) -> Row<K>
 }
 
 // An end of a levelled run: it moves to the other end of the run beside it if that holds the same.
-fn joined<K: Total>(
-    work: &[WorkEntry<K>],
-    beside: K,
-    level: K,
-    neighbour: usize,
-    end: usize,
-) -> usize
+fn joined<K: Total>(work: &[WorkEntry<K>], level: K, neighbour: usize, end: usize) -> usize
     requires { neighbour < length work.now }
-    ensures { Joins (view K.kind K.columns work.now) (K.columns beside) (K.columns level) neighbour end result }
+    ensures { Joins (view K.kind K.columns work.now) ((view K.kind K.columns work.now).total neighbour) (K.columns level) neighbour end result }
 {
-    if same(beside, level) {
+    if same(total_at(work, neighbour), level) {
         other_at(work, neighbour)
     } else {
         end
@@ -265,10 +268,7 @@ fn marked<K: Total>(work: &mut [WorkEntry<K>], kept: usize, first: usize) -> usi
     requires { kept < length work.old }
     ensures { Marked (view K.kind K.columns work.old) (view K.kind K.columns work.new) kept first result }
 {
-    if first == 0 {
-        return kept;
-    }
-    if kept > 0 && mark_at(work, kept - 1) == first {
+    if first == 0 || kept > 0 && mark_at(work, kept - 1) == first {
         return kept;
     }
     set_mark(work, kept, first);

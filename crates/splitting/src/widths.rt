@@ -4,7 +4,7 @@ ghost use Rattle.transform.specs.Pulses.{pulses};
 ghost use Rattle.splitting.specs.Records.{Accepted, laid};
 
 use crate::layout::build;
-use crate::levelling::{Aim, Pass};
+use crate::levelling::{Aim, Counts, Pass};
 use crate::work::WorkEntry;
 use kinds::Total;
 use shelves::Shelf;
@@ -22,11 +22,13 @@ pub(crate) fn split_widths<K: Total, S: Shelf<K>>(
     ensures outside { S.outside shelf.new ≡ S.outside shelf.old }
 {
     let days = totals.len();
-    let mut marks = build(totals, work);
-    let mut rows = 0usize;
+    let mut at = Counts {
+        marks: build(totals, work),
+        rows: 0,
+    };
     for width in 1..=days {
-        if marks == 0 {
-            return rows;
+        if at.marks == 0 {
+            return at.rows;
         }
         let bumps = Pass {
             days,
@@ -38,10 +40,8 @@ pub(crate) fn split_widths<K: Total, S: Shelf<K>>(
             width,
             aim: Aim::Pits,
         };
-        let up = bumps.level_width(work, shelf, marks, rows);
-        let down = pits.level_width(work, shelf, up.kept, up.rows);
-        marks = down.kept;
-        rows = down.rows;
+        let lowered = bumps.level_width(work, shelf, at);
+        at = pits.level_width(work, shelf, lowered);
     }
-    rows
+    at.rows
 }

@@ -17,17 +17,7 @@ loop-day-preserved g c =
     let x : Trace g.K.Total.kind = trace g.K.Total.kind xs in
     let at = trace_at g.K.Total.kind g.K.Total.columns c.args.totals.now c.loop-day.day c.index-totals-day.result (omega arith) c.index-totals-day.is in
     let e : c.loop-day.day + 1 ≡ suc c.loop-day.day = omega arith in
-    rw e (c.extended-at.ensures (suc (length c.args.totals.now)) x c.loop-day.invariant.0 c.loop-day.invariant.1 (sym at) (omega arith))
-
-pub set_run-requires-clause-first_in_bounds : goal.set_run-requires-clause-first_in_bounds
-set_run-requires-clause-first_in_bounds g c =
-    let xs = map g.K.Total.columns c.args.totals.now in
-    let x : Trace g.K.Total.kind = trace g.K.Total.kind xs in
-    let n : ℕ = length c.args.totals.now in
-    let d : c.loop-day.day ≡ n = omega arith in
-    let zero = (trace_outside g.K.Total.kind xs).1 (suc n) (simp length-map (omega arith)) in
-    let A = c.extended-at-2.ensures (suc n) x (rw d at c.loop-day.invariant.0) c.loop-day.invariant.1 (c.zero-outside.ensures ∙ sym zero) (omega arith) in
-    omega (arith, A.0.order)
+    rw e (c.extended-at.ensures.laid (suc (length c.args.totals.now)) x c.loop-day.invariant.0 c.loop-day.invariant.1 (sym at) (omega arith))
 
 pub returns : goal.returns
 returns g c =
@@ -37,9 +27,9 @@ returns g c =
     let d : c.loop-day.day ≡ n = omega arith in
     let zero = (trace_outside g.K.Total.kind xs).1 (suc n) (simp length-map (omega arith)) in
     let f : n + 1 ≡ suc n = omega arith in
-    let A = c.extended-at-2.ensures (suc n) x (rw d at c.loop-day.invariant.0) c.loop-day.invariant.1 (c.zero-outside.ensures ∙ sym zero) (omega arith) in
+    let A = c.extended-at-2.ensures.laid (suc n) x (rw d at c.loop-day.invariant.0) c.loop-day.invariant.1 (c.zero-outside.ensures ∙ sym zero) (omega arith) in
     record {
       knows = rw (c.set_run.ensures, f, A.1) (laid_known (suc n) x _ _ _ A.0);
       marks = rw c.set_run.ensures (laid_marks g.K.Total.kind g.met.K.Total.lawful (suc n) x _ _ _ A.0);
-      few = A.0.few;
+      few = c.extended-at-2.ensures.marks;
     }
