@@ -66,7 +66,7 @@ unfolding in_turn
 in_turn_one f zero h = absurd (omega arith)
 in_turn_one f (suc s) h = let q : s ≡ suc s - 1 = omega arith in ap (λ k. in_turn k f ++ f (suc s)) q
 
-module _ (K : Kind) (O : Lawful K) (n N : ℕ) (some : 0 < n) (x : Trace K) (A : Apart K n x) (o : Outside K N x) (v : View (Of K)) (i hi kept r : ℕ)
+module _ {K : Kind} (O : Lawful K) {n N : ℕ} (some : 0 < n) {x : Trace K} (A : Apart K n x) (o : Outside K N x) {v : View (Of K)} {i hi kept r : ℕ}
     (M : Midway K n (suc N) x v i hi kept r) where
   -- the run of a mark
   pub marked_run : i < hi → r < v.mark i → (v.total (v.mark i) ≡ spliced K n x r (v.mark i)) × Run (suc N) (spliced K n x r) (v.mark i) (v.other (v.mark i))
@@ -123,7 +123,7 @@ module _ (K : Kind) (O : Lawful K) (n N : ℕ) (some : 0 < n) (x : Trace K) (A :
         | inr f ↦ spliced_upto K n x r d f
       ]) j
 
-  module _ (s e : ℕ) (here : i < hi) (marked : v.mark i ≡ s) (past : r < s) (R : Run (suc N) (spliced K n x r) s e) where
+  module _ {s e : ℕ} (here : i < hi) (marked : v.mark i ≡ s) (past : r < s) (R : Run (suc N) (spliced K n x r) s e) where
     -- of the bumps and pits that begin after day r and up to day e, all begin on day s
     pub first_turn : (p w : ℕ) → Turn K (spliced K n x r) p w → r ≤ p → p < e → s ≡ suc p
     first_turn p w T h l =
@@ -225,7 +225,7 @@ module _ (K : Kind) (O : Lawful K) (n N : ℕ) (some : 0 < n) (x : Trace K) (A :
 
     -- the mark's run is a bump of width n, and it is levelled to t, which makes the run from s' to e'
     module _ (wide : suc e ≡ s + n) (up : Below K (spliced K n x r (s - 1)) (spliced K n x r s)) (down : Below K (spliced K n x r (suc e)) (spliced K n x r s))
-        (s' e' : ℕ) (t : Of K) (is : t ≡ higher K (spliced K n x r (s - 1)) (spliced K n x r (suc e)))
+        {s' e' : ℕ} {t : Of K} (is : t ≡ higher K (spliced K n x r (s - 1)) (spliced K n x r (suc e)))
         (left : ((spliced K n x r (s - 1) ≡ t) × Run (suc N) (spliced K n x r) s' (s - 1)) ⊎ ((spliced K n x r (s - 1) ≡ t → ⊥) × (s' ≡ s)))
         (right : ((spliced K n x r (suc e) ≡ t) × Run (suc N) (spliced K n x r) (suc e) e') ⊎ ((spliced K n x r (suc e) ≡ t → ⊥) × (e' ≡ e))) where
       z : Trace K

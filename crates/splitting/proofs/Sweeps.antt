@@ -75,7 +75,7 @@ module _ {K : Kind} (O : Lawful K) {aim : Aim} {n days : ℕ} {v : View (Of K)} 
 
   module _ {w : View (Of K)} {i kept r : ℕ} (M : Midway (aimed K aim) n (suc days) (trace K b) w i marks kept r) (last : marks ≤ i) where
     E : (spliced J n (trace K b) r ≡ L J n (trace K b)) × Marks J (spliced J n (trace K b) r) w.mark 0 kept 0 (suc days) × ((c : ℕ) → r ≤ c → Bump J (trace K b) c n → ⊥)
-    E = pass_ends J P n days R.stage.some (trace K b) R.stage.apart out w i marks kept r M last
+    E = pass_ends P R.stage.some R.stage.apart out M last
 
     all : spliced J n (trace K b) r ≡ trace K a
     all = E.0 ∙ sym R.stage.levels

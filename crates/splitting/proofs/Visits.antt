@@ -57,7 +57,7 @@ module _ {K : Kind} (O : Lawful K) {aim : Aim} {n days : ℕ} {v : View (Of K)} 
   found : (v.total s ≡ z s) × Run (suc days) z s e
   found =
       let h : r < v.mark i = let p = V.past in let m = V.marked in omega arith in
-      rw V.marked at (marked_run J P n days V.stage.some (trace K b) V.stage.apart out v i hi kept r V.mid V.here h)
+      rw V.marked at (marked_run P V.stage.some V.stage.apart out V.mid V.here h)
 
   pub visit_starts : 0 < s
   visit_starts = let p = V.past in omega arith
@@ -134,11 +134,11 @@ module _ {K : Kind} (O : Lawful K) {aim : Aim} {n days : ℕ} {v : View (Of K)} 
 
     pub visit_dropped : Midway (aimed K aim) n (suc days) (trace K b) v (suc i) hi kept (v.other s)
     visit_dropped =
-        run_dropped J P n days V.stage.some (trace K b) V.stage.apart out v i hi kept r V.mid s e V.here V.marked V.past found.1
+        run_dropped P V.stage.some V.stage.apart out V.mid V.here V.marked V.past found.1
         (λ B. no_turn n (inl B)) no_turn
 
     pub dropped_none : in_turn (v.other s) (change K b a) ≡ in_turn r (change K b a)
-    dropped_none = none_listed (no_bump J P n days V.stage.some (trace K b) V.stage.apart out v i hi kept r V.mid s e V.here V.marked V.past found.1 (λ B. no_turn n (inl B)))
+    dropped_none = none_listed (no_bump P V.stage.some V.stage.apart out V.mid V.here V.marked V.past found.1 (λ B. no_turn n (inl B)))
 
   -- it is kept
   module _ (F : FateOf (aimed K aim) days n s (v.other s) (v.total (s - 1)) (v.total s) (v.total (v.other s + 1)) Kept) where
@@ -147,10 +147,10 @@ module _ {K : Kind} (O : Lawful K) {aim : Aim} {n days : ℕ} {v : View (Of K)} 
 
     pub visit_kept : Midway (aimed K aim) n (suc days) (trace K b) (with_mark v kept s) (suc i) hi (suc kept) (v.other s)
     visit_kept =
-        run_kept J P n days V.stage.some (trace K b) V.stage.apart out v i hi kept r V.mid s e V.here V.marked V.past found.1 not_levelled
+        run_kept P V.stage.some V.stage.apart out V.mid V.here V.marked V.past found.1 not_levelled
 
     pub kept_none : in_turn (v.other s) (change K b a) ≡ in_turn r (change K b a)
-    kept_none = none_listed (no_bump J P n days V.stage.some (trace K b) V.stage.apart out v i hi kept r V.mid s e V.here V.marked V.past found.1 not_levelled)
+    kept_none = none_listed (no_bump P V.stage.some V.stage.apart out V.mid V.here V.marked V.past found.1 not_levelled)
 
   -- its run is levelled
   module _ (F : FateOf (aimed K aim) days n s (v.other s) (v.total (s - 1)) (v.total s) (v.total (v.other s + 1)) Levelled)
@@ -183,16 +183,16 @@ module _ {K : Kind} (O : Lawful K) {aim : Aim} {n days : ℕ} {v : View (Of K)} 
     pub visit_levelled : Midway (aimed K aim) n (suc days) (trace K b) w (suc i) hi kept' e'
     visit_levelled = elim G [
       | inl (p, q, m) ↦ rw (p, q, E.written)
-          (levelled_same J P n days V.stage.some (trace K b) V.stage.apart out v i hi kept r V.mid s e V.here V.marked V.past found.1 F.3 up falls s' e' t t_is lefts rights (rw E.written at m))
+          (levelled_same P V.stage.some V.stage.apart out V.mid V.here V.marked V.past found.1 F.3 up falls t_is lefts rights (rw E.written at m))
       | inr (p, q, pos, m) ↦ rw (p, q, E.written)
-          (levelled_marked J P n days V.stage.some (trace K b) V.stage.apart out v i hi kept r V.mid s e V.here V.marked V.past found.1 F.3 up falls s' e' t t_is lefts rights pos (rw E.written at m))
+          (levelled_marked P V.stage.some V.stage.apart out V.mid V.here V.marked V.past found.1 F.3 up falls t_is lefts rights pos (rw E.written at m))
     ]
 
     reaches : e ≤ e'
     reaches = elim rights [ inl (q, Q) ↦ let f = Q.order in omega arith | inr (q, f) ↦ omega arith ]
 
     there : Bump J (trace K b) (s - 1) n
-    there = the_bump J P n days V.stage.some (trace K b) V.stage.apart out v i hi kept r V.mid s e V.here V.marked V.past found.1 F.3 up falls s' e' t t_is lefts rights
+    there = the_bump P V.stage.some V.stage.apart out V.mid V.here V.marked V.past found.1 F.3 up falls t_is lefts rights
 
     as_there : (d : ℕ) → s - 1 ≤ d → z d ≡ trace K b d
     as_there =
@@ -219,7 +219,7 @@ module _ {K : Kind} (O : Lawful K) {aim : Aim} {n days : ℕ} {v : View (Of K)} 
           | inl (B, q) ↦ ap (change K b a) (sym i1) ∙ (q ∙ ap (λ p. p ∷ []) the_pulse)
           | inr (h, q) ↦ absurd (h there)
         ] in
-        in_turn_none (change K b a) s e' (let q = reaches in omega arith) (λ c h l. unlisted c (none_after J P n days V.stage.some (trace K b) V.stage.apart out v i hi kept r V.mid s e V.here V.marked V.past found.1 F.3 up falls s' e' t t_is lefts rights c h l)) ∙
+        in_turn_none (change K b a) s e' (let q = reaches in omega arith) (λ c h l. unlisted c (none_after P V.stage.some V.stage.apart out V.mid V.here V.marked V.past found.1 F.3 up falls t_is lefts rights c h l)) ∙
         (in_turn_one (change K b a) s f ∙
         (rw here (ap (λ l. l ++ bump_pulse K aim v n s (v.other s) ∷ [])
-        (in_turn_none (change K b a) r (s - 1) (omega arith) (λ c h l. unlisted c (none_before J P n days V.stage.some (trace K b) V.stage.apart out v i hi kept r V.mid s e V.here V.marked V.past found.1 F.3 up falls s' e' t t_is lefts rights c h l))))))
+        (in_turn_none (change K b a) r (s - 1) (omega arith) (λ c h l. unlisted c (none_before P V.stage.some V.stage.apart out V.mid V.here V.marked V.past found.1 F.3 up falls t_is lefts rights c h l))))))

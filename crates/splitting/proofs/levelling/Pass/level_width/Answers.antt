@@ -1,5 +1,4 @@
 use Rattle.std.proofs.Common.{◌≡◌, suc, ◌+◌, refl, ◌∙◌, arith}
-use Rattle.splitting.specs.Passes.{aimed}
 use Rattle.splitting.proofs.Aims.{aimed_lawful}
 use Rattle.splitting.proofs.Passes.{skipped}
 use Rattle.splitting.proofs.Visits.{stage_outside, to_visit}
@@ -48,7 +47,7 @@ loop-number-preserved g c =
                 let I = c.loop-number.invariant.stands b a R in
                 let l = w.if-first-at.false in
                 let q = c.mark_at-first.ensures in (
-                  rw e (skipped (aimed g.K.Total.kind c.args.self.aim) (aimed_lawful _ g.met.K.Total.lawful c.args.self.aim) _ _ R.stage.some _ R.stage.apart (stage_outside _ c.args.self.aim _ b R.size) _ _ _ _ _ I.0 c.loop-number-test.true (omega arith)),
+                  rw e (skipped (aimed_lawful _ g.met.K.Total.lawful c.args.self.aim) R.stage.some R.stage.apart (stage_outside _ c.args.self.aim _ b R.size) I.0 c.loop-number-test.true (omega arith)),
                   I.1,
                 );
             rows = let n = c.loop-number.invariant.rows in omega arith;
