@@ -282,7 +282,7 @@ fn put_next<K: Total, S: Shelf<K>>(shelf: &mut S, rows: usize, row: Row<K>) -> u
     ensures rows { result ≡ rows + 1 }
     ensures outside { S.outside shelf.new ≡ S.outside shelf.old }
 {
-    // The answer is dropped: that there is a slot follows only from the count of all the pulses.
+    // Stays `let _`: for an `unwrap` each contract up to the widths would count the pulses still to come.
     let _ = shelf.put(rows, &row);
     rows + 1
 }
