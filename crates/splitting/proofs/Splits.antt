@@ -7,7 +7,7 @@ use Rattle.kinds.specs.Columns.{Arity, one, two, Each, nought, within}
 use Rattle.kinds.specs.Kinds.{Kind, Of, Lawful}
 use Rattle.shelves.specs.Slots.{Entry}
 use Rattle.transform.specs.Windows.{Record, Trace, trace, lowered, smooth}
-use Rattle.transform.specs.Pulses.{Pulse, in_turn, upward, downward, pulses}
+use Rattle.transform.specs.Pulses.{Pulse, in_turn, change, changes, upward, downward, pulses}
 use Rattle.transform.specs.Theory.{turned}
 use Rattle.transform.proofs.Order.{turned_lawful}
 use Rattle.transform.proofs.Smooths.{trace_outside, apart_flat, length_smooth, length_lowered, smooth_outside}
@@ -19,9 +19,9 @@ use Rattle.splitting.specs.Records.{BarredDay, row_of, laid}
 use Rattle.splitting.specs.declared.levelling.Aim.TheVariants.{Bumps, Pits}
 use Rattle.splitting.specs.Work.{View}
 use Rattle.splitting.specs.Runs.{Knows, Turn, Marks}
-use Rattle.splitting.specs.Passes.{Ready, Swept, put_rows}
+use Rattle.splitting.specs.Passes.{Ready, SlotsLeft, Swept, put_rows}
 use Rattle.splitting.proofs.Splices.{turn_within}
-use Rattle.splitting.proofs.Sweeps.{put_rows_append}
+use Rattle.splitting.proofs.Sweeps.{put_rows_append, put_rows_length}
 
 -- rows put from slot 0 on, where there are slots enough
 put_rows_from : {K : Kind} (ps : List (Pulse K)) (front rest : List (Option Entry)) → length ps ≤ length rest → put_rows (length front) ps (front ++ rest) ≡ front ++ laid ps rest
@@ -139,6 +139,27 @@ module _ {K : Kind} (O : Lawful K) {xs : Record K} {days n : ℕ} {v : View (Of 
     pub rows_up : rows ≤ days
     rows_up = let z = F.size in let a = upto_few K O xs n (omega arith) in let c = F.count in omega arith
 
+    -- the next width's pulses, and the rows so far, are no more than the slots
+    slots_enough : rows + (length (upward K xs (suc n)) + length (downward K xs (suc n))) ≤ length s
+    slots_enough =
+        let z = F.size in
+        let a = upto_few K O xs (suc n) (omega arith) in
+        let q : length (in_turn (suc n) (stage K xs)) ≡ length (in_turn n (stage K xs)) + (length (upward K xs (suc n)) + length (downward K xs (suc n))) =
+        simp (in_turn_next K O xs n, length-append) refl in
+        let b = F.count in
+        let h = F.room in
+        let l : length s ≡ length base = ap length F.put ∙ put_rows_length 0 (in_turn n (stage K xs)) base in
+        omega arith
+
+    pub slots_up : SlotsLeft {K = K} (change K (smooth K n xs) (lowered K (suc n) (smooth K n xs))) days 0 rows (length s)
+    unfolding upward changes in_turn
+    slots_up =
+        let h = slots_enough in
+        let q : length (smooth K n xs) ≡ days = length_smooth K O n xs ∙ F.size in
+        let e : length (upward K xs (suc n)) ≡ length (in_turn days (change K (smooth K n xs) (lowered K (suc n) (smooth K n xs)))) =
+        ap (λ d. length (in_turn d (change K (smooth K n xs) (lowered K (suc n) (smooth K n xs))))) q in
+        omega arith
+
     module _ {u : View (Of K)} {kept rows' : ℕ} {s' : List (Option Entry)} (up : (b a : Record K) → Ready K Bumps width days v marks b a → Swept K Bumps days u kept b a rows rows' s s') where
       W : Swept K Bumps days u kept (smooth K n xs) (lowered K (suc n) (smooth K n xs)) rows rows' s s'
       W = up _ _ ready_up
@@ -153,6 +174,17 @@ module _ {K : Kind} (O : Lawful K) {xs : Record K} {days n : ℕ} {v : View (Of 
             marked = marks_turned K _ _ _ _ _ _ W.marked;
             few = W.few;
           }
+
+      pub slots_down : SlotsLeft {K = K} (change K (lowered K (suc n) (smooth K n xs)) (smooth K (suc n) xs)) days 0 rows' (length s')
+      unfolding upward downward changes in_turn
+      slots_down =
+          let h = slots_enough in
+          let q : length (lowered K (suc n) (smooth K n xs)) ≡ days = length_lowered K O (suc n) (smooth K n xs) ∙ (length_smooth K O n xs ∙ F.size) in
+          let e : length (downward K xs (suc n)) ≡ length (in_turn days (change K (lowered K (suc n) (smooth K n xs)) (smooth K (suc n) xs))) =
+          ap (λ d. length (in_turn d (change K (lowered K (suc n) (smooth K n xs)) (smooth K (suc n) xs)))) q in
+          let c : rows' ≡ rows + length (upward K xs (suc n)) = W.count in
+          let l : length s' ≡ length s = ap length W.put ∙ put_rows_length rows (upward K xs (suc n)) s in
+          omega arith
 
       pub rows_down : rows' ≤ days
       unfolding upward

@@ -1,6 +1,6 @@
 -- A whole pass: its start, its end, and the rows that it puts.
 use Rattle.std.proofs.Common.{◌≡◌, ℕ, suc, ◌+◌, ◌≤◌, List, [], ◌∷◌, ◌++◌, length, set, Option, sym, refl, ap, ◌∙◌, inl, inr, arith}
-use Rattle.std.proofs.lemmas.List.{append-nil, append_assoc, length-append}
+use Rattle.std.proofs.lemmas.List.{append-nil, append_assoc, length-append, length-set}
 use Rattle.std.proofs.lemmas.Bool.{cases_lt}
 use Rattle.kinds.specs.Kinds.{Kind, Of, Lawful}
 use Rattle.shelves.specs.Slots.{Entry}
@@ -14,7 +14,7 @@ use Rattle.splitting.specs.Records.{row_of}
 use Rattle.splitting.specs.declared.levelling.Aim.{Aim}
 use Rattle.splitting.specs.Work.{View}
 use Rattle.splitting.specs.Runs.{Knows, Marks}
-use Rattle.splitting.specs.Passes.{aimed, spliced, Midway, Ready, put_rows, Added}
+use Rattle.splitting.specs.Passes.{aimed, spliced, Midway, Ready, SlotsLeft, put_rows, Added}
 use Rattle.splitting.proofs.Aims.{aimed_lawful}
 use Rattle.splitting.proofs.Splices.{spliced_pass}
 use Rattle.splitting.proofs.Passes.{in_turn_none, pass_ends}
@@ -25,6 +25,11 @@ pub put_rows_append : {K : Kind} (n : ℕ) (ps qs : List (Pulse K)) (slots : Lis
 put_rows_append n [] qs slots = ap (λ k. put_rows k qs slots) (let e : n ≡ n + 0 = omega arith in e)
 put_rows_append n (p ∷ ps) qs slots =
     put_rows_append (suc n) ps qs (set slots n (row_of p)) ∙ ap (λ k. put_rows k qs (put_rows n (p ∷ ps) slots)) (let e : suc n + length ps ≡ n + suc (length ps) = omega arith in e)
+
+-- rows put leave as many slots
+pub put_rows_length : {K : Kind} (n : ℕ) (ps : List (Pulse K)) (slots : List (Option Entry)) → length (put_rows n ps slots) ≡ length slots
+put_rows_length n [] slots = refl
+put_rows_length n (p ∷ ps) slots = put_rows_length (suc n) ps (set slots n (row_of p)) ∙ length-set slots n (row_of p)
 
 pub added_none : (K : Kind) (f : ℕ → List (Pulse K)) (r rows : ℕ) (slots : List (Option Entry)) → Added K f r r rows rows slots slots
 added_none K f r rows slots = record { list = []; more = sym (append-nil (in_turn r f)); put = refl; count = omega arith }
@@ -38,6 +43,15 @@ added_then {f} {r} {n} {s} A B =
       put = B.put ∙ (rw (A.count, A.put) (sym (put_rows_append n A.list B.list s)));
       count = let a = A.count in let b = B.count in simp length-append (omega arith);
     }
+
+-- after what was added enough slots are left
+pub added_left : {K : Kind} {f : ℕ → List (Pulse K)} (m : ℕ) {r n n' : ℕ} {s s' : List (Option Entry)} → SlotsLeft {K = K} f m 0 n (length s) → Added K f 0 r n n' s s' → SlotsLeft {K = K} f m r n' (length s')
+unfolding in_turn
+added_left {f} m {r} {n} {s} {s'} h A =
+    let q : length (in_turn r f) ≡ length A.list = ap length A.more in
+    let l : length s' ≡ length s = ap length A.put ∙ put_rows_length n A.list s in
+    let c = A.count in
+    omega arith
 
 -- all that was added from day 0 on
 pub added_all : {K : Kind} {f : ℕ → List (Pulse K)} {r n n' : ℕ} {s s' : List (Option Entry)} (l : List (Pulse K)) → in_turn r f ≡ l → Added K f 0 r n n' s s' → (s' ≡ put_rows n l s) × (n' ≡ n + length l)

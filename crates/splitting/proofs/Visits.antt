@@ -1,6 +1,7 @@
 -- What a visit of a mark leaves.
-use Rattle.std.proofs.Common.{◌≡◌, ℕ, suc, ◌+◌, ◌-◌, ◌<◌, ◌≤◌, true, ◌⊎◌, [], ◌∷◌, ◌++◌, length, sym, refl, ap, ◌∙◌, inl, inr, arith}
+use Rattle.std.proofs.Common.{◌≡◌, ℕ, suc, ◌+◌, ◌-◌, ◌<◌, ◌≤◌, true, ◌⊎◌, List, [], ◌∷◌, ◌++◌, length, sym, refl, ap, ◌∙◌, inl, inr, arith}
 use Rattle.std.proofs.lemmas.Bool.{cases_lt}
+use Rattle.std.proofs.lemmas.List.{length-append}
 use Rattle.kinds.specs.Columns.{within}
 use Rattle.kinds.specs.Kinds.{Kind, Of, Lawful}
 use Rattle.transform.specs.Windows.{Record, Trace, trace, higher}
@@ -9,16 +10,16 @@ use Rattle.transform.specs.Theory.{turned, Bump}
 use Rattle.transform.proofs.Order.{Below, turned_lawful}
 use Rattle.transform.proofs.Smooths.{Outside, trace_outside}
 use Rattle.transform.proofs.Listing.{Pass, lowering, change_is}
-use Rattle.transform.proofs.Endings.{L_among}
+use Rattle.transform.proofs.Endings.{L_among, in_turn_front}
 use Rattle.splitting.specs.declared.levelling.Fate.TheVariants.{Levelled, Kept, Dropped}
 use Rattle.splitting.specs.declared.levelling.Aim.{Aim}
 use Rattle.splitting.specs.Work.{View, with_mark}
 use Rattle.splitting.specs.Runs.{Run, Turn}
-use Rattle.splitting.specs.Passes.{aimed, spliced, Stage, Midway, Ready, Visiting, FateOf, nearest, Relaid, Marked, bump_pulse}
+use Rattle.splitting.specs.Passes.{aimed, spliced, Stage, Midway, Ready, Visiting, SlotsLeft, FateOf, nearest, Relaid, Marked, bump_pulse}
 use Rattle.splitting.proofs.Aims.{aimed_lawful}
 use Rattle.splitting.proofs.Runs.{run_same, same_or_not}
-use Rattle.splitting.proofs.Splices.{spliced_upto, spliced_past, spliced_outside, turn_within, turn_run, bump_there_same}
-use Rattle.splitting.proofs.Passes.{known_left, known_right, run_bump, in_turn_none, in_turn_one, marked_run, run_dropped, run_kept, no_bump, the_bump, none_before, none_after, levelled_same, levelled_marked}
+use Rattle.splitting.proofs.Splices.{spliced_upto, spliced_past, spliced_outside, turn_within, turn_run, bump_there, bump_there_same}
+use Rattle.splitting.proofs.Passes.{known_left, known_right, run_bump, in_turn_none, in_turn_one, marked_run, run_dropped, run_kept, no_bump, none_before, none_after, levelled_same, levelled_marked}
 
 pub stage_outside : (K : Kind) (aim : Aim) (days : ℕ) (b : Record K) → length b ≡ days → Outside (aimed K aim) days (trace K b)
 stage_outside K aim days b q = rw q at (trace_outside K b)
@@ -37,6 +38,14 @@ entered_midway K O aim n b a S r d = elim (cases_lt r d) [
 pub to_visit : {K : Kind} {aim : Aim} {n days : ℕ} {v w : View (Of K)} {marks kept r s i : ℕ} {b a : Record K} →
     Ready K aim n days v marks b a → Midway (aimed K aim) n (suc days) (trace K b) w i marks kept r → i < marks → s ≡ w.mark i → r < s → Visiting K aim n days w kept r s b a i marks
 to_visit R M h q p = record { size = R.size; stage = R.stage; mid = M; here = h; few = R.few; marked = sym q; past = p }
+
+-- days that come later leave no pulse out
+in_turn_longer : {A : Type 0} (f : ℕ → List A) (r e : ℕ) → r ≤ e → length (in_turn r f) ≤ length (in_turn e f)
+in_turn_longer f r e h =
+    let w = in_turn_front f r (e - r) in
+    let q : r + (e - r) ≡ e = omega arith in
+    let l = ap length (rw q at w.1) in
+    omega (arith, simp length-append at l)
 
 module _ {K : Kind} (O : Lawful K) {aim : Aim} {n days : ℕ} {v : View (Of K)} {kept r s : ℕ} {b a : Record K} {i hi : ℕ} (V : Visiting K aim n days v kept r s b a i hi) where
   abbrev J : Kind
@@ -126,6 +135,37 @@ module _ {K : Kind} (O : Lawful K) {aim : Aim} {n days : ℕ} {v : View (Of K)} 
       let i2 : suc (s - 1 + w) ≡ suc e = let q = p.1 in omega arith in
       rw (beside.0, found.0, (behind p.0).0) (rw i1 at B.rises, rw (i2, i1) at B.falls)
 
+  -- a bump of the pass's width has its pulse still to be put
+  module _ (F : FateOf (aimed K aim) days n s (v.other s) (v.total (s - 1)) (v.total s) (v.total (v.other s + 1)) Levelled) where
+    up : Below J (z (s - 1)) (z s)
+    up = rw (beside.0, found.0) at F.1
+
+    falls : Below J (z (suc e)) (z s)
+    falls = rw ((behind F.0).0, found.0) at F.2
+
+    there : Bump J (trace K b) (s - 1) n
+    there =
+        let p = V.past in
+        bump_there J P n days (trace K b) V.stage.apart out r V.mid.clear (s - 1) (omega arith)
+        (run_bump J (suc days) n z s e found.1 visit_starts F.3 up falls)
+
+    pub slot_left : (rows slots : ℕ) → SlotsLeft {K = K} (change K b a) days r rows slots → rows < slots
+    slot_left rows slots h =
+        let f = visit_starts in
+        let p = V.past in
+        let o = found.1.order in
+        let l = F.0 in
+        let i : suc (s - 1) ≡ s = omega arith in
+        let here : length (change K b a s) ≡ 1 = elim (change_is K O (aimed K aim).below n b a (stage_pass K O aim n b a V.stage) (s - 1)) [
+          | inl (B, q) ↦ ap length (ap (change K b a) (sym i) ∙ q)
+          | inr (g, q) ↦ absurd (g there)
+        ] in
+        let one : length (in_turn s (change K b a)) ≡ length (in_turn (s - 1) (change K b a)) + length (change K b a s) =
+        ap length (in_turn_one (change K b a) s f) ∙ length-append (in_turn (s - 1) (change K b a)) (change K b a s) in
+        let before = in_turn_longer (change K b a) r (s - 1) (omega arith) in
+        let after = in_turn_longer (change K b a) s days (omega arith) in
+        omega arith
+
   -- the mark is dropped
   module _ (F : FateOf (aimed K aim) days n s (v.other s) (v.total (s - 1)) (v.total s) (v.total (v.other s + 1)) Dropped) where
     no_turn : (w : ℕ) → Turn J z (s - 1) w → ⊥
@@ -158,12 +198,6 @@ module _ {K : Kind} (O : Lawful K) {aim : Aim} {n days : ℕ} {v : View (Of K)} 
     abbrev t : Of K
     t = nearest (aimed K aim) v s (v.other s)
 
-    up : Below J (z (s - 1)) (z s)
-    up = rw (beside.0, found.0) at F.1
-
-    falls : Below J (z (suc e)) (z s)
-    falls = rw ((behind F.0).0, found.0) at F.2
-
     t_is : t ≡ higher J (z (s - 1)) (z (suc e))
     unfolding higher
     t_is = rw (beside.0, (behind F.0).0)
@@ -183,22 +217,19 @@ module _ {K : Kind} (O : Lawful K) {aim : Aim} {n days : ℕ} {v : View (Of K)} 
     pub visit_levelled : Midway (aimed K aim) n (suc days) (trace K b) w (suc i) hi kept' e'
     visit_levelled = elim G [
       | inl (p, q, m) ↦ rw (p, q, E.written)
-          (levelled_same P V.stage.some V.stage.apart out V.mid V.here V.marked V.past found.1 F.3 up falls t_is lefts rights (rw E.written at m))
+          (levelled_same P V.stage.some V.stage.apart out V.mid V.here V.marked V.past found.1 F.3 (up F) (falls F) t_is lefts rights (rw E.written at m))
       | inr (p, q, pos, m) ↦ rw (p, q, E.written)
-          (levelled_marked P V.stage.some V.stage.apart out V.mid V.here V.marked V.past found.1 F.3 up falls t_is lefts rights pos (rw E.written at m))
+          (levelled_marked P V.stage.some V.stage.apart out V.mid V.here V.marked V.past found.1 F.3 (up F) (falls F) t_is lefts rights pos (rw E.written at m))
     ]
 
     reaches : e ≤ e'
     reaches = elim rights [ inl (q, Q) ↦ let f = Q.order in omega arith | inr (q, f) ↦ omega arith ]
 
-    there : Bump J (trace K b) (s - 1) n
-    there = the_bump P V.stage.some V.stage.apart out V.mid V.here V.marked V.past found.1 F.3 up falls t_is lefts rights
-
     as_there : (d : ℕ) → s - 1 ≤ d → z d ≡ trace K b d
     as_there =
         let f = V.past in
         bump_there_same J P n days (trace K b) V.stage.apart out r V.mid.clear (s - 1) (omega arith)
-        (run_bump J (suc days) n z s e found.1 visit_starts F.3 up falls)
+        (run_bump J (suc days) n z s e found.1 visit_starts F.3 (up F) (falls F))
 
     the_pulse : lowering K (aimed K aim).below n (trace K b) (s - 1) ≡ bump_pulse K aim v n s (v.other s)
     unfolding higher
@@ -217,9 +248,9 @@ module _ {K : Kind} (O : Lawful K) {aim : Aim} {n days : ℕ} {v : View (Of K)} 
         let i1 : suc (s - 1) ≡ s = omega arith in
         let here : change K b a s ≡ bump_pulse K aim v n s (v.other s) ∷ [] = elim (change_is K O (aimed K aim).below n b a (stage_pass K O aim n b a V.stage) (s - 1)) [
           | inl (B, q) ↦ ap (change K b a) (sym i1) ∙ (q ∙ ap (λ p. p ∷ []) the_pulse)
-          | inr (h, q) ↦ absurd (h there)
+          | inr (h, q) ↦ absurd (h (there F))
         ] in
-        in_turn_none (change K b a) s e' (let q = reaches in omega arith) (λ c h l. unlisted c (none_after P V.stage.some V.stage.apart out V.mid V.here V.marked V.past found.1 F.3 up falls t_is lefts rights c h l)) ∙
+        in_turn_none (change K b a) s e' (let q = reaches in omega arith) (λ c h l. unlisted c (none_after P V.stage.some V.stage.apart out V.mid V.here V.marked V.past found.1 F.3 (up F) (falls F) t_is lefts rights c h l)) ∙
         (in_turn_one (change K b a) s f ∙
         (rw here (ap (λ l. l ++ bump_pulse K aim v n s (v.other s) ∷ [])
-        (in_turn_none (change K b a) r (s - 1) (omega arith) (λ c h l. unlisted c (none_before P V.stage.some V.stage.apart out V.mid V.here V.marked V.past found.1 F.3 up falls t_is lefts rights c h l))))))
+        (in_turn_none (change K b a) r (s - 1) (omega arith) (λ c h l. unlisted c (none_before P V.stage.some V.stage.apart out V.mid V.here V.marked V.past found.1 F.3 (up F) (falls F) t_is lefts rights c h l))))))

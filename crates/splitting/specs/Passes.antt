@@ -78,6 +78,11 @@ abbrev pub put_rows : {K : Kind} → ℕ → List (Pulse K) → List (Option Ent
 put_rows n [] slots = slots
 put_rows n (p ∷ ps) slots = put_rows (suc n) ps (slice_set slots n (row_of p))
 
+-- after so many rows, of so many slots enough are left for the pulses that f lists for the days after
+-- r and up to m
+abbrev pub SlotsLeft : {K : Kind} → (ℕ → List (Pulse K)) → (m r rows slots : ℕ) → Type 0
+SlotsLeft f m r rows slots = rows + length (in_turn m f) ≤ slots + length (in_turn r f)
+
 -- the pulses that f lists for the days after r and up to r' are put, from the number of rows on
 pub record Added (K : Kind) (f : ℕ → List (Pulse K)) (r r' rows rows' : ℕ) (slots slots' : List (Option Entry)) : Type 0 where
   pub list : List (Pulse K)

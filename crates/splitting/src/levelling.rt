@@ -7,7 +7,7 @@ ghost use Rattle.transform.specs.Windows.{Record, trace};
 ghost use Rattle.transform.specs.Pulses.{change};
 ghost use Rattle.splitting.specs.Records.{marked_in, row_of};
 ghost use Rattle.splitting.specs.Work.{view};
-ghost use Rattle.splitting.specs.Passes.{aimed, FateOf, Joins, Relaid, bump_pulse, Marked, Midway, Visiting, Added, Ready, Swept};
+ghost use Rattle.splitting.specs.Passes.{aimed, FateOf, Joins, Relaid, bump_pulse, Marked, Midway, Visiting, Added, Ready, SlotsLeft, Swept};
 
 use crate::work::{WorkEntry, mark_at, other_at, same, set_mark, set_run, total_at};
 use kinds::Total;
@@ -109,7 +109,7 @@ impl Pass {
     ) -> Counts
         requires room { self.days + 2 ≤ length work.old }
         requires rows { start.rows ≤ self.days }
-        requires stands { (b : Record K.kind) × (a : Record K.kind) × Ready K.kind self.aim self.width self.days (view K.kind K.columns work.old) start.marks b a }
+        requires stands { (b : Record K.kind) × (a : Record K.kind) × Ready K.kind self.aim self.width self.days (view K.kind K.columns work.old) start.marks b a × SlotsLeft {K = K.kind} (change K.kind b a) self.days 0 start.rows (length (S.slots shelf.old)) }
         ensures stands { (b a : Record K.kind) → Ready K.kind self.aim self.width self.days (view K.kind K.columns work.old) start.marks b a → Swept K.kind self.aim self.days (view K.kind K.columns work.new) result.marks b a start.rows result.rows (S.slots shelf.old) (S.slots shelf.new) }
         ensures outside { S.outside shelf.new ≡ S.outside shelf.old }
     {
@@ -141,7 +141,7 @@ impl Pass {
     ) -> Progress
         requires room { self.days + 2 ≤ length work.old }
         requires rows { at.rows < 65536 }
-        requires stands { (b : Record K.kind) × (a : Record K.kind) × (i : ℕ) × (hi : ℕ) × Visiting K.kind self.aim self.width self.days (view K.kind K.columns work.old) at.kept at.reached first b a i hi }
+        requires stands { (b : Record K.kind) × (a : Record K.kind) × (i : ℕ) × (hi : ℕ) × Visiting K.kind self.aim self.width self.days (view K.kind K.columns work.old) at.kept at.reached first b a i hi × SlotsLeft {K = K.kind} (change K.kind b a) self.days at.reached at.rows (length (S.slots shelf.old)) }
         ensures stands { (b a : Record K.kind) (i hi : ℕ) → Visiting K.kind self.aim self.width self.days (view K.kind K.columns work.old) at.kept at.reached first b a i hi → Midway (aimed K.kind self.aim) self.width (suc self.days) (trace K.kind b) (view K.kind K.columns work.new) (suc i) hi result.kept result.reached × Added K.kind (change K.kind b a) at.reached result.reached at.rows result.rows (S.slots shelf.old) (S.slots shelf.new) }
         ensures rows { result.rows ≤ at.rows + 1 }
         ensures outside { S.outside shelf.new ≡ S.outside shelf.old }
@@ -277,12 +277,12 @@ fn marked<K: Total>(work: &mut [WorkEntry<K>], kept: usize, first: usize) -> usi
 
 // Puts a row after those that there are. Answers their new number.
 fn put_next<K: Total, S: Shelf<K>>(shelf: &mut S, rows: usize, row: Row<K>) -> usize
-    requires { rows < 65536 }
+    requires few { rows < 65536 }
+    requires slot { rows < length (S.slots shelf.old) }
     ensures slots { S.slots shelf.new ≡ slice_set (S.slots shelf.old) rows (shown K.kind K.columns row) }
     ensures rows { result ≡ rows + 1 }
     ensures outside { S.outside shelf.new ≡ S.outside shelf.old }
 {
-    // Stays `let _`: for an `unwrap` each contract up to the widths would count the pulses still to come.
-    let _ = shelf.put(rows, &row);
+    shelf.put(rows, &row).unwrap();
     rows + 1
 }

@@ -1,7 +1,7 @@
 use Rattle.std.proofs.Common.{◌≡◌, suc, ◌+◌, ◌-◌, ◌≤◌, length, refl, ◌∙◌, arith}
 use Rattle.std.proofs.lemmas.List.{length-map}
 use Rattle.splitting.proofs.Grounds.{accepted_enter, accepted_few, accepted_room, accepted_slots}
-use Rattle.splitting.proofs.Splits.{so_far_none, split_done, split_flat, ready_up, rows_up, ready_down, rows_down, so_far_more}
+use Rattle.splitting.proofs.Splits.{so_far_none, split_done, split_flat, ready_up, rows_up, slots_up, ready_down, rows_down, slots_down, so_far_more}
 use Rattle.splitting.proofs.widths.split_widths.Goals as goal
 
 pub build-requires : goal.build-requires
@@ -31,7 +31,7 @@ level_width-lowered-requires g c =
     record {
       room = omega (arith, accepted_room _ _ _ _ c.requires, length-map c.args.totals.now g.K.Total.columns);
       rows = rows_up O F wide more;
-      stands = (_, _, ready_up O F wide more);
+      stands = (_, _, ready_up O F wide more, slots_up O F wide more);
     }
 
 pub level_width-at-requires : goal.level_width-at-requires
@@ -43,7 +43,7 @@ level_width-at-requires g c =
     record {
       room = omega (arith, accepted_room _ _ _ _ c.requires, length-map c.args.totals.now g.K.Total.columns);
       rows = rows_down O F wide more c.level_width-lowered.ensures.stands;
-      stands = (_, _, ready_down O F wide more c.level_width-lowered.ensures.stands);
+      stands = (_, _, ready_down O F wide more c.level_width-lowered.ensures.stands, slots_down O F wide more c.level_width-lowered.ensures.stands);
     }
 
 pub loop-width-preserved : goal.loop-width-preserved

@@ -2,7 +2,7 @@ use Rattle.std.proofs.Common.{◌≡◌, suc, ◌+◌, refl, ◌∙◌, arith}
 use Rattle.splitting.proofs.Aims.{aimed_lawful}
 use Rattle.splitting.proofs.Passes.{skipped}
 use Rattle.splitting.proofs.Visits.{stage_outside, to_visit}
-use Rattle.splitting.proofs.Sweeps.{added_none, added_then, added_all, ready_midway, done_knows, done_marks, done_list}
+use Rattle.splitting.proofs.Sweeps.{added_none, added_then, added_left, added_all, ready_midway, done_knows, done_marks, done_list}
 use Rattle.splitting.proofs.levelling.Pass.level_width.Goals as goal
 use Rattle.splitting.proofs.levelling.Pass.level_width.Goals.{then-first-at, else-first-at}
 
@@ -25,7 +25,7 @@ visit-at-requires g c =
     record {
       room = omega arith;
       rows = omega arith;
-      stands = (_, _, _, _, to_visit R I.0 c.loop-number-test.true c.mark_at-first.ensures c.if-first-at.true);
+      stands = (_, _, _, _, to_visit R I.0 c.loop-number-test.true c.mark_at-first.ensures c.if-first-at.true, added_left c.args.self.days c.requires.stands.3 I.1);
     }
 
 pub loop-number-preserved : goal.loop-number-preserved

@@ -2,7 +2,7 @@ use Rattle.std.proofs.Common.{◌≡◌, suc, ◌+◌, [], ◌∷◌, set, refl,
 use Rattle.std.proofs.lemmas.List.{append-nil}
 use Rattle.splitting.specs.Work.{view}
 use Rattle.splitting.specs.Passes.{bump_pulse}
-use Rattle.splitting.proofs.Visits.{visit_starts, visit_order, visit_end, other_left, other_right, entered_here, entered_left, entered_right, visit_dropped, dropped_none, visit_kept, kept_none, visit_levelled, levelled_one}
+use Rattle.splitting.proofs.Visits.{visit_starts, visit_order, visit_end, other_left, other_right, entered_here, entered_left, entered_right, slot_left, visit_dropped, dropped_none, visit_kept, kept_none, visit_levelled, levelled_one}
 use Rattle.splitting.proofs.levelling.Pass.visit.Goals as goal
 
 pub other_at-requires : goal.other_at-requires
@@ -40,6 +40,11 @@ pulse-requires g c =
       left_entered = entered_left O V;
       right_entered = rw c.other_at.ensures (entered_right O V f);
     }
+
+pub put_next-rows-requires-clause-slot : goal.put_next-rows-requires-clause-slot
+put_next-rows-requires-clause-slot g c =
+    let V = c.requires.stands.4 in
+    slot_left g.met.K.Total.lawful V (rw c.other_at.ensures at c.in-Levelled.ensures) _ _ c.requires.stands.5
 
 pub level-first-requires : goal.level-first-requires
 level-first-requires g c =
