@@ -7,7 +7,7 @@ use Rattle.transform.proofs.Order.{Below, AtMost, not_below, higher_left, higher
 use Rattle.splitting.specs.Runs.{Run, Turn}
 
 -- z has a bump from s to e, y has the total t there, which joins it to the runs of t beside it
-module _ (K : Kind) (O : Lawful K) (m : ℕ) (z y : Trace K) (s e s' e' : ℕ) (t : Of K)
+module _ {K : Kind} (O : Lawful K) {m : ℕ} {z : Trace K} (y : Trace K) {s e s' e' : ℕ} {t : Of K}
     (R : Run m z s e) (first : 0 < s) (last : e < m)
     (up : Below K (z (s - 1)) (z s)) (down : Below K (z (suc e)) (z s)) (is : t ≡ higher K (z (s - 1)) (z (suc e)))
     (before : (d : ℕ) → d < s → y d ≡ z d) (on : (d : ℕ) → s ≤ d → d ≤ e → y d ≡ t) (after : (d : ℕ) → e < d → y d ≡ z d)

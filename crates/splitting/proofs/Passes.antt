@@ -66,7 +66,7 @@ unfolding in_turn
 in_turn_one f zero h = absurd (omega arith)
 in_turn_one f (suc s) h = let q : s ≡ suc s - 1 = omega arith in ap (λ k. in_turn k f ++ f (suc s)) q
 
-module _ (K : Kind) (O : Lawful K) (n N : ℕ) (some : 0 < n) (x : Trace K) (A : Apart K n x) (o : Outside K N x) (v : View (Of K)) (i hi kept r : ℕ)
+module _ {K : Kind} (O : Lawful K) {n N : ℕ} (some : 0 < n) {x : Trace K} (A : Apart K n x) (o : Outside K N x) {v : View (Of K)} {i hi kept r : ℕ}
     (M : Midway K n (suc N) x v i hi kept r) where
   -- the run of a mark
   pub marked_run : i < hi → r < v.mark i → (v.total (v.mark i) ≡ spliced K n x r (v.mark i)) × Run (suc N) (spliced K n x r) (v.mark i) (v.other (v.mark i))
@@ -123,7 +123,7 @@ module _ (K : Kind) (O : Lawful K) (n N : ℕ) (some : 0 < n) (x : Trace K) (A :
         | inr f ↦ spliced_upto K n x r d f
       ]) j
 
-  module _ (s e : ℕ) (here : i < hi) (marked : v.mark i ≡ s) (past : r < s) (R : Run (suc N) (spliced K n x r) s e) where
+  module _ {s e : ℕ} (here : i < hi) (marked : v.mark i ≡ s) (past : r < s) (R : Run (suc N) (spliced K n x r) s e) where
     -- of the bumps and pits that begin after day r and up to day e, all begin on day s
     pub first_turn : (p w : ℕ) → Turn K (spliced K n x r) p w → r ≤ p → p < e → s ≡ suc p
     first_turn p w T h l =
@@ -225,7 +225,7 @@ module _ (K : Kind) (O : Lawful K) (n N : ℕ) (some : 0 < n) (x : Trace K) (A :
 
     -- the mark's run is a bump of width n, and it is levelled to t, which makes the run from s' to e'
     module _ (wide : suc e ≡ s + n) (up : Below K (spliced K n x r (s - 1)) (spliced K n x r s)) (down : Below K (spliced K n x r (suc e)) (spliced K n x r s))
-        (s' e' : ℕ) (t : Of K) (is : t ≡ higher K (spliced K n x r (s - 1)) (spliced K n x r (suc e)))
+        {s' e' : ℕ} {t : Of K} (is : t ≡ higher K (spliced K n x r (s - 1)) (spliced K n x r (suc e)))
         (left : ((spliced K n x r (s - 1) ≡ t) × Run (suc N) (spliced K n x r) s' (s - 1)) ⊎ ((spliced K n x r (s - 1) ≡ t → ⊥) × (s' ≡ s)))
         (right : ((spliced K n x r (suc e) ≡ t) × Run (suc N) (spliced K n x r) (suc e) e') ⊎ ((spliced K n x r (suc e) ≡ t → ⊥) × (e' ≡ e))) where
       z : Trace K
@@ -320,11 +320,11 @@ module _ (K : Kind) (O : Lawful K) (n N : ℕ) (some : 0 < n) (x : Trace K) (A :
 
       made : Run (suc N) y s' e'
       unfolding z
-      made = new_run K O (suc N) z y s e s' e' t R (omega arith) last_day up down is y_before y_on y_after left right
+      made = new_run O y R (omega arith) last_day up down is y_before y_on y_after left right
 
       all_t : (d : ℕ) → s' ≤ d → d ≤ e' → y d ≡ t
       unfolding z
-      all_t = one_total K O (suc N) z y s e s' e' t R (omega arith) last_day up down is y_before y_on y_after left right
+      all_t = one_total O y R (omega arith) last_day up down is y_before y_on y_after left right
 
       knows_y : Knows (suc N) (suc (suc N)) (with_run v s' e' t) y
       unfolding z
@@ -333,8 +333,8 @@ module _ (K : Kind) (O : Lawful K) (n N : ℕ) (some : 0 < n) (x : Trace K) (A :
           let b = near in
           let c = far in
           let k = knows_again (suc N) v z y s' e' made
-          (begun K O (suc N) z y s e s' e' t R (omega arith) last_day up down is y_before y_on y_after left right)
-          (ended K O (suc N) z y s e s' e' t R (omega arith) last_day up down is y_before y_on y_after left right)
+          (begun O y R (omega arith) last_day up down is y_before y_on y_after left right)
+          (ended O y R (omega arith) last_day up down is y_before y_on y_after left right)
           (λ d h. y_before d (omega arith)) (λ d h. y_after d (omega arith)) M.knows in
           rw (all_t s' (omega arith) a) at k
 
@@ -371,7 +371,7 @@ module _ (K : Kind) (O : Lawful K) (n N : ℕ) (some : 0 < n) (x : Trace K) (A :
           let c = R.order in
           elim (cases_lt (p + w) s') [
             | inl g ↦
-                let V = turn_before K O (suc N) z y s e s' e' t R (omega arith) last_day up down is y_before y_on y_after left right p w T g in
+                let V = turn_before O y R (omega arith) last_day up down is y_before y_on y_after left right p w T g in
                 elim (cases_lt p r) [
                   | inl l ↦ inr (M.early.turns p w V (omega arith) l)
                   | inr l ↦ absurd (let q = first_turn p w V l (omega arith) in omega arith)
@@ -389,7 +389,7 @@ module _ (K : Kind) (O : Lawful K) (n N : ℕ) (some : 0 < n) (x : Trace K) (A :
             | inl l ↦ h (sym (y_after (c - 1) (omega arith)) ∙ (q ∙ y_after c (omega arith)))
             | inr l ↦ made.ends (omega arith) (ap y (let k : suc e' ≡ c = omega arith in k) ∙ (sym q ∙ ap y (let k : c - 1 ≡ e' = omega arith in k)))
           ])
-          (turn_after K O (suc N) z y s e s' e' t R (omega arith) last_day up down is y_before y_on y_after left right)
+          (turn_after O y R (omega arith) last_day up down is y_before y_on y_after left right)
 
       levelled_with : (kept' : ℕ) (w : View (Of K)) → (w.total ≡ (with_run v s' e' t).total) → (w.other ≡ (with_run v s' e' t).other) → kept' ≤ suc i →
           Marks K y w.mark 0 kept' 0 e' → ((j : ℕ) → i < j → w.mark j ≡ v.mark j) → Midway K n (suc N) x w (suc i) hi kept' e'

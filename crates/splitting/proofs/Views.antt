@@ -31,18 +31,6 @@ module _ {X Y : Type 0} (f : X → Y) (xs : List X) (k : ℕ) (v : X) (z : Y) (h
   ])
 
 module _ {V : Type 0} (K : Kind) (columns : V → Of K) (work : List (WorkEntry V)) (k : ℕ) (x : WorkEntry V) (h : k < length work) where
-  pub total_is : (view K columns work).total k ≡ columns (get_or work k x).total
-  unfolding view
-  total_is = get_or-map (λ e. columns e.total) work k x _ h
-
-  pub other_is : (view K columns work).other k ≡ (get_or work k x).other
-  unfolding view
-  other_is = get_or-map (λ e. e.other) work k x _ h
-
-  pub mark_is : (view K columns work).mark k ≡ (get_or work k x).mark
-  unfolding view
-  mark_is = get_or-map (λ e. e.mark) work k x _ h
-
   pub end_written : (total : V) (other : ℕ) →
       view K columns (set work k (record { total = total; other = other; mark = (get_or work k x).mark })) ≡ with_end (view K columns work) k other (columns total)
   unfolding view
@@ -54,13 +42,13 @@ module _ {V : Type 0} (K : Kind) (columns : V → Of K) (work : List (WorkEntry 
         mark = kept (λ e. e.mark) work k v 0 h x refl i;
       }
 
-  pub mark_written : (first : ℕ) → x ≡ get_or work k x →
-      view K columns (set work k (record { total = x.total; other = x.other; mark = first })) ≡ with_mark (view K columns work) k first
+  pub mark_written : (first : ℕ) →
+      view K columns (set work k (record { total = (get_or work k x).total; other = (get_or work k x).other; mark = first })) ≡ with_mark (view K columns work) k first
   unfolding view
-  mark_written first is =
-      let v : WorkEntry V = record { total = x.total; other = x.other; mark = first } in
+  mark_written first =
+      let v : WorkEntry V = record { total = (get_or work k x).total; other = (get_or work k x).other; mark = first } in
       λ i. record {
-        total = kept (λ e. columns e.total) work k v (nought K.arity) h x (ap (λ (e : WorkEntry V). columns e.total) is) i;
-        other = kept (λ e. e.other) work k v 0 h x (ap (λ (e : WorkEntry V). e.other) is) i;
+        total = kept (λ e. columns e.total) work k v (nought K.arity) h x refl i;
+        other = kept (λ e. e.other) work k v 0 h x refl i;
         mark = written (λ e. e.mark) work k v 0 h i;
       }

@@ -6,18 +6,25 @@ use Rattle.shelves.specs.Slots.{Entry}
 use Rattle.transform.specs.Windows.{Record, Trace, trace, L}
 use Rattle.transform.specs.Pulses.{Pulse, in_turn, changes}
 use Rattle.transform.specs.Theory.{Bump}
+use Rattle.splitting.specs.declared.levelling.Aim.{Aim}
+use Rattle.splitting.specs.declared.levelling.Aim.TheVariants.{Bumps, Pits}
 use Rattle.splitting.specs.declared.levelling.Fate.{Fate}
 use Rattle.splitting.specs.declared.levelling.Fate.TheVariants.{Levelled, Kept, Dropped}
 use Rattle.splitting.specs.Records.{row_of}
 use Rattle.splitting.specs.Work.{View, with_mark, with_run}
 use Rattle.splitting.specs.Runs.{Knows, Marks}
 
--- the kind by whose order a pass levels bumps: turned in a pass that levels pits
-abbrev pub aimed : Kind → Bool → Kind
-aimed K down =
+-- the order by which a pass levels bumps: turned in a pass that levels pits
+abbrev pub order_of : {X : Type 0} → Aim → (X → X → Bool) → X → X → Bool
+order_of Bumps below a b = below a b
+order_of Pits below a b = below b a
+
+-- the kind by whose order a pass levels bumps
+abbrev pub aimed : Kind → Aim → Kind
+aimed K aim =
     record {
       arity = K.arity;
-      below = λ a b. cond down (K.below b a) (K.below a b);
+      below = λ a b. order_of aim K.below a b;
       bound = K.bound;
       has = K.has;
       names = K.names;
@@ -25,12 +32,12 @@ aimed K down =
 
 -- A pass of width n makes the record after of the record before: no bump before is narrower than n
 -- (between a rise and a later fall lie at least n days), and each total before may be entered.
-pub record Stage (K : Kind) (down : Bool) (n : ℕ) (before after : Record K) : Type 0 where
+pub record Stage (K : Kind) (aim : Aim) (n : ℕ) (before after : Record K) : Type 0 where
   pub some : 0 < n
   pub apart :
-      (p q : ℕ) → p < q → (aimed K down).below (trace K before p) (trace K before (suc p)) ≡ true →
-      (aimed K down).below (trace K before (suc q)) (trace K before q) ≡ true → p + n ≤ q
-  pub levels : trace K after ≡ L (aimed K down) n (trace K before)
+      (p q : ℕ) → p < q → (aimed K aim).below (trace K before p) (trace K before (suc p)) ≡ true →
+      (aimed K aim).below (trace K before (suc q)) (trace K before q) ≡ true → p + n ≤ q
+  pub levels : trace K after ≡ L (aimed K aim) n (trace K before)
   pub entered : (d : ℕ) → within K.arity K.bound (trace K before d) ≡ true
 
 -- the trace in mid-pass: levelled up to day r
@@ -49,18 +56,18 @@ pub record Midway (K : Kind) (n m : ℕ) (x : Trace K) (v : View (Of K)) (i hi k
   pub ahead : Marks K (spliced K n x r) v.mark i hi r m
 
 -- what a pass of a record of so many days starts from
-pub record Ready (K : Kind) (down : Bool) (n days : ℕ) (v : View (Of K)) (marks : ℕ) (before after : Record K) : Type 0 where
+pub record Ready (K : Kind) (aim : Aim) (n days : ℕ) (v : View (Of K)) (marks : ℕ) (before after : Record K) : Type 0 where
   pub size : length before ≡ days
-  pub stage : Stage K down n before after
+  pub stage : Stage K aim n before after
   pub knows : Knows (suc days) (suc (suc days)) v (trace K before)
-  pub marked : Marks (aimed K down) (trace K before) v.mark 0 marks 0 (suc days)
+  pub marked : Marks (aimed K aim) (trace K before) v.mark 0 marks 0 (suc days)
   pub few : marks ≤ suc days
 
 -- what a visit of the mark on day s starts from, which is number i
-pub record Visiting (K : Kind) (down : Bool) (n days : ℕ) (v : View (Of K)) (kept r s : ℕ) (before after : Record K) (i hi : ℕ) : Type 0 where
+pub record Visiting (K : Kind) (aim : Aim) (n days : ℕ) (v : View (Of K)) (kept r s : ℕ) (before after : Record K) (i hi : ℕ) : Type 0 where
   pub size : length before ≡ days
-  pub stage : Stage K down n before after
-  pub mid : Midway (aimed K down) n (suc days) (trace K before) v i hi kept r
+  pub stage : Stage K aim n before after
+  pub mid : Midway (aimed K aim) n (suc days) (trace K before) v i hi kept r
   pub here : i < hi
   pub few : hi ≤ suc days
   pub marked : v.mark i ≡ s
@@ -71,6 +78,11 @@ abbrev pub put_rows : {K : Kind} → ℕ → List (Pulse K) → List (Option Ent
 put_rows n [] slots = slots
 put_rows n (p ∷ ps) slots = put_rows (suc n) ps (slice_set slots n (row_of p))
 
+-- after so many rows, of so many slots enough are left for the pulses that f lists for the days after
+-- r and up to m
+abbrev pub SlotsLeft : {K : Kind} → (ℕ → List (Pulse K)) → (m r rows slots : ℕ) → Type 0
+SlotsLeft f m r rows slots = rows + length (in_turn m f) ≤ slots + length (in_turn r f)
+
 -- the pulses that f lists for the days after r and up to r' are put, from the number of rows on
 pub record Added (K : Kind) (f : ℕ → List (Pulse K)) (r r' rows rows' : ℕ) (slots slots' : List (Option Entry)) : Type 0 where
   pub list : List (Pulse K)
@@ -80,9 +92,9 @@ pub record Added (K : Kind) (f : ℕ → List (Pulse K)) (r r' rows rows' : ℕ)
 
 -- what a pass leaves: the work list knows the record after it, its marks serve for that, and the
 -- pulses that the windows list for the pass are put
-pub record Swept (K : Kind) (down : Bool) (days : ℕ) (v : View (Of K)) (kept : ℕ) (before after : Record K) (rows rows' : ℕ) (slots slots' : List (Option Entry)) : Type 0 where
+pub record Swept (K : Kind) (aim : Aim) (days : ℕ) (v : View (Of K)) (kept : ℕ) (before after : Record K) (rows rows' : ℕ) (slots slots' : List (Option Entry)) : Type 0 where
   pub knows : Knows (suc days) (suc (suc days)) v (trace K after)
-  pub marked : Marks (aimed K down) (trace K after) v.mark 0 kept 0 (suc days)
+  pub marked : Marks (aimed K aim) (trace K after) v.mark 0 kept 0 (suc days)
   pub few : kept ≤ suc days
   pub put : slots' ≡ put_rows rows (changes K before after) slots
   pub count : rows' ≡ rows + length (changes K before after)
@@ -112,9 +124,9 @@ pub record Relaid (K : Kind) (v v' : View (Of K)) (s e s' e' : ℕ) : Type 0 whe
   pub written : v' ≡ with_run v s' e' (nearest K v s e)
 
 -- the pulse of a bump of width n from s to e
-abbrev pub bump_pulse : (K : Kind) → Bool → View (Of K) → (n s e : ℕ) → Pulse K
-bump_pulse K down v n s e =
-    record { first = s; width = n; amount = minus K.arity (v.total s) (nearest (aimed K down) v s e) }
+abbrev pub bump_pulse : (K : Kind) → Aim → View (Of K) → (n s e : ℕ) → Pulse K
+bump_pulse K aim v n s e =
+    record { first = s; width = n; amount = minus K.arity (v.total s) (nearest (aimed K aim) v s e) }
 
 -- a mark for day s beside those kept: day 0 needs none, and neither does a day that has the last one
 abbrev pub Marked : {X : Type 0} → View X → View X → ℕ → ℕ → ℕ → Type 0

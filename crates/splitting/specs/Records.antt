@@ -60,11 +60,6 @@ pub record Lowest (K : Kind) (xs : Record K) (entries capacity : ℕ) (r : Refus
 abbrev pub Accepted : (K : Kind) → Record K → ℕ → ℕ → Type 0
 Accepted K xs entries capacity = (q : Refusal) → Ground K xs entries capacity q → ⊥
 
--- the refusal that applies, or nothing where the record is accepted
-abbrev pub RefusalOf : (K : Kind) → Record K → ℕ → ℕ → Option Refusal → Type 0
-RefusalOf K xs entries capacity None = Accepted K xs entries capacity
-RefusalOf K xs entries capacity (Some r) = Lowest K xs entries capacity r
-
 -- What splitting a record answers, from the shelf s to the shelf t, whose slots are before and after,
 -- and from the work list w to the work list v: it is accepted, the answer is the number of pulses, and
 -- they are put as the windows list them; or it is refused, and shelf and work list are as they were.

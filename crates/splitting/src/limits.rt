@@ -1,36 +1,18 @@
 // Whether a record is refused, and by which number.
-ghost use Rattle.std.specs.Prelude.{◌+◌, ◌<◌, ◌≤◌, map, MatchBool};
-ghost use Rattle.splitting.specs.Records.{BarredDay, RefusalOf};
+ghost use Rattle.std.specs.Prelude.{map, MatchResult};
+ghost use Rattle.splitting.specs.Records.{Accepted, BarredDay, Lowest};
 
 use kinds::Total;
 use refusals::Refusal;
 
 const MOST_DAYS: usize = 1000;
 
-fn too_many(days: usize) -> bool
-    ensures { MatchBool result (1000 < days) (days ≤ 1000) }
-{
-    days > MOST_DAYS
-}
-
-fn too_short(entries: usize, days: usize) -> bool
-    requires { days ≤ 1000 }
-    ensures { MatchBool result (entries < days + 2) (days + 2 ≤ entries) }
-{
-    days + 2 > entries
-}
-
-fn too_small(capacity: usize, days: usize) -> bool
-    ensures { MatchBool result (capacity < days) (days ≤ capacity) }
-{
-    days > capacity
-}
-
 // The first day, counted from 1, whose total may not be entered.
 fn first_barred<K: Total>(totals: &[K]) -> Option<usize>
     ensures { BarredDay K.kind (map K.columns totals.now) result }
 {
     let mut day = 0usize;
+    // Stays a loop with a counter: the project fixed the form in which this day is found.
     for total in totals {
         day += 1;
         if !total.may_enter() {
@@ -40,26 +22,22 @@ fn first_barred<K: Total>(totals: &[K]) -> Option<usize>
     None
 }
 
-// The lowest number of the table whose condition splitting a record meets.
-pub(crate) fn refused_split<K: Total>(
-    totals: &[K],
-    entries: usize,
-    capacity: usize,
-) -> Option<Refusal>
-    ensures { RefusalOf K.kind (map K.columns totals.now) entries capacity result }
+// Refuses a record by the lowest number of the table whose condition it meets.
+pub(crate) fn admit<K: Total>(totals: &[K], entries: usize, capacity: usize) -> Result<(), Refusal>
+    ensures { MatchResult result (λ _. Accepted K.kind (map K.columns totals.now) entries capacity) (λ refusal. Lowest K.kind (map K.columns totals.now) entries capacity refusal) }
 {
     let days = totals.len();
-    if too_many(days) {
-        return Some(Refusal::TooManyDays);
+    if days > MOST_DAYS {
+        return Err(Refusal::TooManyDays);
     }
     if let Some(day) = first_barred(totals) {
-        return Some(Refusal::MayNotEnter { day });
+        return Err(Refusal::MayNotEnter { day });
     }
-    if too_short(entries, days) {
-        return Some(Refusal::WorkTooShort);
+    if entries < days + 2 {
+        return Err(Refusal::WorkTooShort);
     }
-    if too_small(capacity, days) {
-        return Some(Refusal::ShelfTooSmall);
+    if capacity < days {
+        return Err(Refusal::ShelfTooSmall);
     }
-    None
+    Ok(())
 }

@@ -2,7 +2,7 @@
 ghost use Rattle.std.specs.Prelude.{map, length};
 ghost use Rattle.splitting.specs.Records.{Splits};
 
-use crate::limits::refused_split;
+use crate::limits::admit;
 use crate::widths::split_widths;
 use crate::work::WorkEntry;
 use kinds::Total;
@@ -18,8 +18,6 @@ pub fn split_record<K: Total, S: Shelf<K>>(
 ) -> Result<usize, Refusal>
     ensures { Splits K.kind (map K.columns totals.now) (length work.old) (S.slots shelf.old) (S.slots shelf.new) (S.outside shelf.old) (S.outside shelf.new) shelf.old shelf.new work.old work.new result }
 {
-    match refused_split(totals, work.len(), shelf.capacity()) {
-        Some(refusal) => Err(refusal),
-        None => Ok(split_widths(totals, work, shelf)),
-    }
+    admit(totals, work.len(), shelf.capacity())?;
+    Ok(split_widths(totals, work, shelf))
 }

@@ -4,7 +4,7 @@ ghost use Rattle.transform.specs.Pulses.{pulses};
 ghost use Rattle.splitting.specs.Records.{Accepted, laid};
 
 use crate::layout::build;
-use crate::levelling::{bumps, level_width, pits};
+use crate::levelling::{Aim, Counts, Pass};
 use crate::work::WorkEntry;
 use kinds::Total;
 use shelves::Shelf;
@@ -22,17 +22,26 @@ pub(crate) fn split_widths<K: Total, S: Shelf<K>>(
     ensures outside { S.outside shelf.new ≡ S.outside shelf.old }
 {
     let days = totals.len();
-    let mut marks = build(totals, work);
-    let mut rows = 0usize;
-    for done in 0..days {
-        if marks == 0 {
-            return rows;
+    let mut at = Counts {
+        marks: build(totals, work),
+        rows: 0,
+    };
+    for width in 1..=days {
+        if at.marks == 0 {
+            return at.rows;
         }
-        let width = done + 1;
-        let up = level_width(work, shelf, days, marks, rows, bumps(width));
-        let down = level_width(work, shelf, days, up.kept, up.rows, pits(width));
-        marks = down.kept;
-        rows = down.rows;
+        let bumps = Pass {
+            days,
+            width,
+            aim: Aim::Bumps,
+        };
+        let pits = Pass {
+            days,
+            width,
+            aim: Aim::Pits,
+        };
+        let lowered = bumps.level_width(work, shelf, at);
+        at = pits.level_width(work, shelf, lowered);
     }
-    rows
+    at.rows
 }

@@ -30,13 +30,7 @@ impl<K: Total> WorkEntry<K> {
     }
 }
 
-// A run: a longest stretch of days of equal totals.
-#[derive(Clone, Copy)]
-pub(crate) struct Run {
-    pub first: usize,
-    pub last: usize,
-}
-
+#[tactic(auto, unfolding(crate::specs::Work::view))]
 pub(crate) fn total_at<K: Total>(work: &[WorkEntry<K>], day: usize) -> K
     requires { day < length work.now }
     ensures { K.columns result ≡ (view K.kind K.columns work.now).total day }
@@ -45,6 +39,7 @@ pub(crate) fn total_at<K: Total>(work: &[WorkEntry<K>], day: usize) -> K
 }
 
 // The other end of the run that begins or ends on a day.
+#[tactic(auto, unfolding(crate::specs::Work::view))]
 pub(crate) fn other_at<K: Total>(work: &[WorkEntry<K>], day: usize) -> usize
     requires { day < length work.now }
     ensures { result ≡ (view K.kind K.columns work.now).other day }
@@ -52,6 +47,7 @@ pub(crate) fn other_at<K: Total>(work: &[WorkEntry<K>], day: usize) -> usize
     work[day].other
 }
 
+#[tactic(auto, unfolding(crate::specs::Work::view))]
 pub(crate) fn mark_at<K: Total>(work: &[WorkEntry<K>], number: usize) -> usize
     requires { number < length work.now }
     ensures { result ≡ (view K.kind K.columns work.now).mark number }
@@ -59,34 +55,33 @@ pub(crate) fn mark_at<K: Total>(work: &[WorkEntry<K>], number: usize) -> usize
     work[number].mark
 }
 
+#[tactic(auto, using(crate::proofs::Views::mark_written))]
 pub(crate) fn set_mark<K: Total>(work: &mut [WorkEntry<K>], number: usize, first: usize)
     requires { number < length work.old }
     ensures { view K.kind K.columns work.new ≡ with_mark (view K.kind K.columns work.old) number first }
 {
-    let old = work[number];
-    work[number] = WorkEntry {
-        total: old.total,
-        other: old.other,
-        mark: first,
-    };
+    work[number].mark = first;
 }
 
-// Makes a run of days that hold one total: its two ends are written, and nothing between them.
-pub(crate) fn set_run<K: Total>(work: &mut [WorkEntry<K>], run: Run, total: K)
-    requires first_in_bounds { run.first < length work.old }
-    requires last_in_bounds { run.last < length work.old }
-    ensures { view K.kind K.columns work.new ≡ with_run (view K.kind K.columns work.old) run.first run.last (K.columns total) }
+// Makes a run of the days from first to last, which hold one total: its two ends are written, and
+// nothing between them.
+pub(crate) fn set_run<K: Total>(work: &mut [WorkEntry<K>], first: usize, last: usize, total: K)
+    requires first_in_bounds { first < length work.old }
+    requires last_in_bounds { last < length work.old }
+    ensures { view K.kind K.columns work.new ≡ with_run (view K.kind K.columns work.old) first last (K.columns total) }
 {
-    set_end(work, run.first, run.last, total);
-    set_end(work, run.last, run.first, total);
+    set_end(work, first, last, total);
+    set_end(work, last, first, total);
 }
 
+#[tactic(auto, using(crate::proofs::Views::end_written))]
 fn set_end<K: Total>(work: &mut [WorkEntry<K>], day: usize, other: usize, total: K)
     requires { day < length work.old }
     ensures { view K.kind K.columns work.new ≡ with_end (view K.kind K.columns work.old) day other (K.columns total) }
 {
-    let mark = work[day].mark;
-    work[day] = WorkEntry { total, other, mark };
+    let entry = &mut work[day];
+    entry.total = total;
+    entry.other = other;
 }
 
 // Whether two totals are equal.

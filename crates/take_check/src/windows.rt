@@ -8,62 +8,69 @@ pub struct Pulse {
     pub amount: i64,
 }
 
-// The lowest or the highest of each window of n + 1 values.
-fn of_windows(
+// The lowest of a window's totals.
+fn lowest(window: &[i64]) -> i64 {
+    window.iter().copied().min().unwrap_or(0)
+}
+
+fn highest(window: &[i64]) -> i64 {
+    window.iter().copied().max().unwrap_or(0)
+}
+
+// What `pick` makes of each window of n + 1 values.
+fn of_windows<F: Fn(&[i64]) -> i64>(
     heap: Global,
     values: &[i64],
     n: usize,
-    highest: bool,
-) -> Result<Vec<i64>, AllocError> {
-    let mut out = Vec::new(heap);
-    for window in values.windows(n.saturating_add(1)) {
-        let found = if highest {
-            window.iter().copied().max()
-        } else {
-            window.iter().copied().min()
-        };
-        out.push(found.unwrap_or(0))?;
-    }
-    Ok(out)
+    pick: F,
+) -> Result<Vec<i64>, AllocError>
+    requires { F.IsAlwaysCallable pick }
+{
+    values
+        .windows(n.saturating_add(1))
+        .map(|window| pick(window))
+        .collect(heap)
 }
 
-// L of width n, or U where `up`: the windows reach n days beyond the record on either side.
-fn smoothed(heap: Global, record: &[i64], n: usize, up: bool) -> Result<Vec<i64>, AllocError> {
-    let mut padded = Vec::new(heap);
-    for _ in 0..n {
-        padded.push(0)?;
-    }
-    for value in record {
-        padded.push(*value)?;
-    }
-    for _ in 0..n {
-        padded.push(0)?;
-    }
-    let inner = of_windows(heap, padded.as_slice(), n, up)?;
-    of_windows(heap, inner.as_slice(), n, !up)
+// One smoothing of width n, L or U by which is picked first: the windows reach n days beyond the
+// record on either side.
+fn smoothed<F: Fn(&[i64]) -> i64, G: Fn(&[i64]) -> i64>(
+    heap: Global,
+    record: &[i64],
+    n: usize,
+    first: F,
+    then: G,
+) -> Result<Vec<i64>, AllocError>
+    requires first { F.IsAlwaysCallable first }
+    requires then { G.IsAlwaysCallable then }
+{
+    let mut padded = vec![in heap; 0; n]?;
+    padded.extend(record.iter().copied())?;
+    padded.resize(padded.len().saturating_add(n), 0)?;
+    let inner = of_windows(heap, padded.as_slice(), n, first)?;
+    of_windows(heap, inner.as_slice(), n, then)
 }
 
 // The longest unbroken stretches of changed days, added to the list.
 fn add_changes(list: &mut Vec<Pulse>, before: &[i64], after: &[i64]) -> Result<(), AllocError> {
-    let mut open = Pulse {
-        first: 0,
-        width: 0,
-        amount: 0,
-    };
+    let mut open: Option<Pulse> = None;
     for (i, (b, a)) in before.iter().zip(after).enumerate() {
         if *b != *a {
-            if open.width == 0 {
-                open.first = i.saturating_add(1);
-                open.amount = b.saturating_sub(*a);
-            }
-            open.width = open.width.saturating_add(1);
-        } else if open.width > 0 {
-            list.push(open)?;
-            open.width = 0;
+            let pulse = open.unwrap_or(Pulse {
+                first: i.saturating_add(1),
+                width: 0,
+                amount: b.saturating_sub(*a),
+            });
+            open = Some(Pulse {
+                width: pulse.width.saturating_add(1),
+                ..pulse
+            });
+        } else if let Some(pulse) = open.take() {
+            list.push(pulse)?;
         }
     }
-    if open.width > 0 {
-        list.push(open)?;
+    if let Some(pulse) = open {
+        list.push(pulse)?;
     }
     Ok(())
 }
@@ -73,9 +80,9 @@ pub fn pulses(heap: Global, record: &[i64]) -> Result<Vec<Pulse>, AllocError> {
     let mut list = Vec::new(heap);
     let mut smooth = record.to_vec(heap)?;
     for n in 1..=record.len() {
-        let lowered = smoothed(heap, smooth.as_slice(), n, false)?;
+        let lowered = smoothed(heap, smooth.as_slice(), n, lowest, highest)?;
         add_changes(&mut list, smooth.as_slice(), lowered.as_slice())?;
-        let raised = smoothed(heap, lowered.as_slice(), n, true)?;
+        let raised = smoothed(heap, lowered.as_slice(), n, highest, lowest)?;
         add_changes(&mut list, lowered.as_slice(), raised.as_slice())?;
         smooth = raised;
     }

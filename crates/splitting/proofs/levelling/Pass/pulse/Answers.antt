@@ -1,10 +1,8 @@
-use Rattle.std.proofs.Common.{◌≡◌, true, ap, ◌∙◌}
+use Rattle.std.proofs.Common.{◌≡◌, true}
 use Rattle.std.proofs.lemmas.Bool.{cond_both}
 use Rattle.kinds.specs.Columns.{within}
-use Rattle.kinds.specs.Kinds.{Of}
-use Rattle.splitting.specs.Records.{row_of}
 use Rattle.splitting.proofs.Amounts.{amount_given}
-use Rattle.splitting.proofs.levelling.pulse.Goals as goal
+use Rattle.splitting.proofs.levelling.Pass.pulse.Goals as goal
 
 pub unwrap-amount-requires : goal.unwrap-amount-requires
 unwrap-amount-requires g c =
@@ -17,7 +15,6 @@ unwrap-amount-requires g c =
 
 pub returns : goal.returns
 returns g c =
-    let K = g.K.Total.kind in
     let d = rw c.unwrap-amount.ensures at c.difference.ensures in
     let q = rw (c.total_at.ensures, c.nearer-level.ensures, c.total_at-left.ensures, c.total_at-right.ensures) at d in
-    c.row_in.ensures ∙ ap (λ (a : Of K). row_of {K = K} (record { first = c.args.run.first; width = c.args.pass.width; amount = a })) q
+    rw q at c.row_in.ensures

@@ -1,6 +1,0 @@
-use Rattle.std.proofs.Common.{sym}
-use Rattle.splitting.proofs.Views.{total_is}
-use Rattle.splitting.proofs.work.total_at.Goals as goal
-
-pub returns : goal.returns
-returns g c = sym (total_is g.K.Total.kind g.K.Total.columns c.args.work.now c.args.day c.index-work-day.result c.requires)
