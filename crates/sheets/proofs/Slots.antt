@@ -1,5 +1,5 @@
 -- What marking does to one slot, and to the first slots one after another.
-use Rattle.std.proofs.Common.{◌≡◌, ℕ, zero, suc, ◌+◌, ◌-◌, ◌<◌, ◌≤◌, true, List, length, get_or, Some, None, Ok, Err, Option, Result, sym, refl, ap, ◌∙◌, subst, inl, inr, add-zero, zero-add, add-one, arith}
+use Rattle.std.proofs.Common.{◌≡◌, ℕ, zero, suc, ◌+◌, ◌-◌, ◌<◌, ◌≤◌, List, length, get_or, Some, None, Ok, Err, Option, Result, sym, refl, ap, ◌∙◌, subst, inl, inr, add-zero, zero-add, add-one, arith}
 use Rattle.sheets.specs.declared.sheet.Stop.{Stop}
 use Rattle.std.proofs.lemmas.List.{length-set, get_or-set_same, get_or-set_other, get_or_past}
 use Rattle.std.proofs.lemmas.Bool.{cases_lt, cases_eq, cases_Bool, ne_eqb, eqb-true, eq-eqb}
@@ -8,7 +8,7 @@ use Rattle.shelves.specs.declared.row.Mark.{Mark}
 use Rattle.shelves.specs.Slots.{Entry}
 use Rattle.sheets.specs.declared.sheet.Stop.TheVariants.{Refused, Unreachable}
 use Rattle.sheets.specs.Calls.{Call, marking_one}
-use Rattle.sheets.specs.Marks.{looks, named, outward, marked, change, marks_changed, Marked, Blank}
+use Rattle.sheets.specs.Marks.{named, outward, marked, change, marks_changed, Marked}
 use Rattle.sheets.specs.Inside.{SlotMarked, SlotsMarked}
 
 pub some_not_none : {A : Type 0} (o : Option A) (a : A) → o ≡ Some a → o ≡ None → ⊥
@@ -50,11 +50,6 @@ module _ (K : Kind) (c : Call K) (before : List (Option Entry)) where
     rw add-one (rw (e, g, m.rest k (omega arith)) refl),
     rw g (change_small c k (get_or here k None)),
   )
-
-  -- or the slot is blank
-  pub marked_blank : (k n : ℕ) (here after : List (Option Entry)) → k < n → looks c k ≡ true → Marked c k before here → SlotMarked K c k here after (Err Unreachable) → Blank c n before after
-  marked_blank k n here after h l m (b, s) =
-      record { slot = k; below = h; looked = l; blank = sym (m.rest k (omega arith)) ∙ b; marked_before = subst (λ t. Marked c k before t) (sym s) m }
 
 -- a call that names one slot alone
 module _ (K : Kind) (m : Mark) (k : ℕ) where

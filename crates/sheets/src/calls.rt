@@ -6,7 +6,7 @@ ghost use Rattle.sheets.specs.Marks.{Marking};
 ghost use Rattle.sheets.specs.History.{Continues, Shows};
 ghost use Rattle.sheets.specs.Promise.{Keeps, Promise};
 
-use crate::marks::{Widths, mark_number, mark_widths};
+use crate::marks::{Widths, mark_slot, mark_widths};
 use crate::sheet::{Sheet, Stop};
 use kinds::Total;
 use refusals::Refusal;
@@ -76,6 +76,8 @@ impl<K: Total, S: Shelf<K>> Sheet<K, S> {
 }
 
 // A sheet of the empty record, which begins a history.
+// Stays apart from `new`, as `take_record`, `mark_range` and `mark_one` from their callers: by a rule
+// of the project a public call has no proof file of its own.
 fn begun<K: Total, S: Shelf<K>>(shelf: S) -> Sheet<K, S>
     ensures shelf { result.shelf ≡ shelf }
     ensures answer { state_of S.slots S.outside result ≡ opened (S.slots shelf) (S.outside shelf) }
@@ -119,5 +121,5 @@ fn mark_one<K: Total, S: Shelf<K>>(
     if number == 0 || number > sheet.pulses {
         return Err(Stop::Refused(Refusal::NoSuchPulse));
     }
-    mark_number(&mut sheet.shelf, sheet.pulses, mark, number)
+    mark_slot(&mut sheet.shelf, number - 1, mark)
 }

@@ -1,5 +1,5 @@
 // Marking pulses out and in.
-ghost use Rattle.std.specs.Prelude.{◌≡◌, ◌<◌, ◌≤◌, ◌&&◌, length, if◌then◌else◌, Some, None, nat_le, slice_index_or, slice_set};
+ghost use Rattle.std.specs.Prelude.{◌≡◌, suc, ◌<◌, ◌&&◌, length, if◌then◌else◌, Some, None, nat_le, slice_index_or, slice_set};
 ghost use Rattle.shelves.specs.Slots.{is_out, shown};
 ghost use Rattle.sheets.specs.Inside.{RowHeld, SlotMarked, SlotsMarked, entry_of};
 ghost use Rattle.sheets.specs.Calls.{marking, marking_one};
@@ -98,18 +98,15 @@ fn mark_within<K: Total, S: Shelf<K>>(
     }
 }
 
-// Marks the row of a pulse by its number. Answers how many marks changed.
-pub(crate) fn mark_number<K: Total, S: Shelf<K>>(
+// Marks the row in a slot. Answers how many marks changed.
+pub(crate) fn mark_slot<K: Total, S: Shelf<K>>(
     shelf: &mut S,
-    count: usize,
+    slot: usize,
     mark: Mark,
-    number: usize,
 ) -> Result<usize, Stop>
-    requires { (1 ≤ number) × (number ≤ count) }
-    ensures slots { SlotsMarked K.kind (marking_one mark number) count (S.slots shelf.old) (S.slots shelf.new) result }
+    ensures slots { SlotMarked K.kind (marking_one mark (suc slot)) slot (S.slots shelf.old) (S.slots shelf.new) result }
     ensures outside { S.outside shelf.new ≡ S.outside shelf.old }
 {
-    let slot = number - 1;
     let row = held_row(shelf, slot)?;
     Ok(mark_row(shelf, slot, row, mark))
 }
