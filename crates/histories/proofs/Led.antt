@@ -1,29 +1,24 @@
 -- What a list of calls does to a sheet.
-use Rattle.std.proofs.Common.{◌≡◌, ℕ, ◌+◌, ◌-◌, ◌<◌, List, [], ◌∷◌, map, reverse, length, get_or, take, drop, Ok, Err, Result, sym, refl, ap, ◌∙◌, subst, inl, inr, arith}
-use Rattle.std.proofs.lemmas.List.{take_all, drop_all, take_rest, take-map, drop-map, take_more, map_push, reverse-append}
+use Rattle.std.proofs.Common.{◌≡◌, ℕ, ◌+◌, ◌<◌, List, [], ◌∷◌, map, reverse, length, get_or, take, drop, Ok, Err, Result, sym, refl, ap, ◌∙◌, subst, inl, inr}
+use Rattle.std.proofs.lemmas.List.{take-map, drop-map, take_more, map_push, reverse-append}
 use Rattle.kinds.specs.Kinds.{Kind, Of}
-use Rattle.shelves.specs.declared.row.Mark.{Mark}
 use Rattle.transform.specs.Windows.{Record}
 use Rattle.sheets.specs.declared.sheet.Stop.{Stop}
 use Rattle.sheets.specs.declared.sheet.Stop.TheVariants.{Refused, Unreachable}
 use Rattle.histories.specs.declared.steps.Step.{Step}
 use Rattle.sheets.specs.Takes.{State, Take}
-use Rattle.sheets.specs.Calls.{Call, taking, marking, marking_one}
-use Rattle.sheets.specs.Marks.{Marking}
+use Rattle.sheets.specs.Calls.{Call, taking}
+use Rattle.sheets.specs.Marks.{Marked, Stays, Marking}
 use Rattle.sheets.specs.History.{Calls, Continues}
 use Rattle.sheets.specs.Promise.{Promise, Keeps}
-use Rattle.histories.specs.Steps.{call_of, calls_of, Leaves, Lead, GoesOn, LeavesWork, LeadWork, GoesOnWork}
+use Rattle.histories.specs.Steps.{call_of, calls_of, Done, Leaves, Lead, LeavesWork, LeadWork, GoesOnWork}
 
-module _ {W : Type 0} (K : Kind) (s t : State) (w : List W) where
-  pub range_goes_on : {A : Type 0} (m : Mark) (low high : ℕ) (u v : A) (r : Result ℕ Stop) → (v ≡ u → t ≡ s) → Marking K (marking m low high) s t u v r → Continues K (marking m low high) s t r → Keeps K (marking m low high) s t → GoesOnWork K (marking m low high) s t w w
-  range_goes_on m low high u v (Ok n) y (a, b, d, e) f k h S = (k h S, inl (a, (b, d), refl))
-  range_goes_on m low high u v (Err (Refused r)) y (g, e) f k h S = (k h S, inr ((r, g), y e, refl))
-  range_goes_on m low high u v (Err Unreachable) y e f k h S = absurd ((f h S).1 tt)
-
-  pub one_goes_on : {A : Type 0} (m : Mark) (n : ℕ) (u v : A) (r : Result ℕ Stop) → (v ≡ u → t ≡ s) → Marking K (marking_one m n) s t u v r → Continues K (marking_one m n) s t r → Keeps K (marking_one m n) s t → GoesOnWork K (marking_one m n) s t w w
-  one_goes_on m n u v (Ok x) y (a, b, d, e) f k h S = (k h S, inl (a, (b, d), refl))
-  one_goes_on m n u v (Err (Refused r)) y (g, e) f k h S = (k h S, inr ((r, g), y e, refl))
-  one_goes_on m n u v (Err Unreachable) y e f k h S = absurd ((f h S).1 tt)
+-- a call that marks leaves the work list
+pub marking_goes_on : {A W : Type 0} (K : Kind) (c : Call K) (s t : State) (w : List W) (u v : A) (r : Result ℕ Stop) → (Stays s t → Marked {K = K} c s.count s.slots t.slots → Done K c s t) → (v ≡ u → t ≡ s) →
+    Marking K c s t u v r → Continues K c s t r → Keeps K c s t → GoesOnWork K c s t w w
+marking_goes_on K c s t w u v (Ok n) d y (a, b, m, e) f k h S = (k h S, inl (a, d b m, refl))
+marking_goes_on K c s t w u v (Err (Refused r)) d y (g, e) f k h S = (k h S, inr ((r, g), y e, refl))
+marking_goes_on K c s t w u v (Err Unreachable) d y e f k h S = absurd ((f h S).1 tt)
 
 -- a take with a part of a work list, from the list w to the list x
 pub take_goes_on : {A W : Type 0} (K : Kind) (s t : State) (xs : Record K) (entries : ℕ) (w x : List W) (u v : A) (i o : List W) (r : Result ℕ Stop) → (v ≡ u → t ≡ s) → (o ≡ i → x ≡ w) → drop entries x ≡ drop entries w →
@@ -31,20 +26,6 @@ pub take_goes_on : {A W : Type 0} (K : Kind) (s t : State) (xs : Record K) (entr
 take_goes_on K s t xs entries w x u v i o (Ok n) y z q (a, e, d) f k h S = (k h S, inl (a, d, q))
 take_goes_on K s t xs entries w x u v i o (Err (Refused r)) y z q (l, e, d) f k h S = (k h S, inr ((r, l.ground), y e, z d))
 take_goes_on K s t xs entries w x u v i o (Err Unreachable) y z q e f k h S = absurd e
-
--- a part of a list
-pub take_nothing : {A : Type 0} (n : ℕ) → take {A = A} n [] ≡ []
-take_nothing n = take_all n [] (omega arith)
-
-module _ {A : Type 0} (xs : List A) (i n : ℕ) where
-  pub part_past : length xs < i → take (length xs - length xs) (drop (length xs) xs) ≡ take n (drop i xs)
-  part_past h = rw (drop_all (length xs) xs (omega arith), drop_all i xs (omega arith)) (take_nothing (length xs - length xs) ∙ sym (take_nothing n))
-
-  pub part_rest : length (take (length xs - i) (drop i xs)) < n → take (length xs - i) (drop i xs) ≡ take n (drop i xs)
-  part_rest h = take_rest xs i ∙ sym (take_all n (drop i xs) (let z : length (drop i xs) < n = rw (take_rest xs i) at h in omega arith))
-
-  pub part_within : take n (take (length xs - i) (drop i xs)) ≡ take n (drop i xs)
-  part_within = ap (take n) (take_rest xs i)
 
 -- a take by plain numbers is a take of that part of the totals
 pub part_goes_on : {V W : Type 0} (K : Kind) (columns : V → Of K) (s t : State) (w x : List W) (totals record' : List V) (skipped n entries room : ℕ) → record' ≡ take n (drop skipped totals) → entries ≡ room →
@@ -78,6 +59,3 @@ leaves_sheet K c s t w v (inr l) = inr (l.0, l.1)
 pub lead_sheet : {W : Type 0} (K : Kind) (h : Calls K) (s t : State) (w v : List W) → LeadWork K h s t w v → Lead K h s t
 lead_sheet K [] s t w v l = l.0
 lead_sheet K (c ∷ h) s t w v (m, u, l, e) = (m, lead_sheet K h s m w u l, leaves_sheet K c m t u v e)
-
-pub goes_on_sheet : {W : Type 0} (K : Kind) (c : Call K) (s t : State) (w v : List W) → GoesOnWork K c s t w v → GoesOn K c s t
-goes_on_sheet K c s t w v f h S = let g = f h S in (g.0.shows, leaves_sheet K c s t w v g.1)

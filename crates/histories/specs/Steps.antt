@@ -60,10 +60,6 @@ abbrev pub LeadWork : {W : Type 0} (K : Kind) → Calls K → State → State �
 LeadWork K [] s t w v = (t ≡ s) × (v ≡ w)
 LeadWork {W = W} K (c ∷ h) s t w v = (m : State) × (u : List W) × LeadWork K h s m w u × LeavesWork K c m t u v
 
--- what performing one more call does after a list of calls
-abbrev pub GoesOn : (K : Kind) → Call K → State → State → Type 0
-GoesOn K c before after = (h : Calls K) → Shows K h before → Shows K (c ∷ h) after × Leaves K c before after
-
--- and what it leaves of a work list
+-- what performing one more call does to a sheet and a work list after a list of calls
 abbrev pub GoesOnWork : {W : Type 0} (K : Kind) → Call K → State → State → List W → List W → Type 0
 GoesOnWork K c s t w v = (h : Calls K) → Shows K h s → Promise K (c ∷ h) t × LeavesWork K c s t w v

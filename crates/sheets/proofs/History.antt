@@ -259,18 +259,20 @@ module _ (K : Kind) (O : Lawful K) where
   out_mark In e = absurd (both_ways _ refl e)
   out_mark TakenOut e = refl
 
-  pub range_shows : {A : Type 0} (m : Mark) (low high : ℕ) (s t : State) (u v : A) (r : Result ℕ Stop) → (v ≡ u → t ≡ s) → Marking K (marking m low high) s t u v r → ShowsOn K (marking m low high) s t r
-  range_shows m low high s t u v (Ok n) w (a, y, d, e) h S =
-      (marked_shows K O (marking m low high) h s t S (tells_widths K O S.totals m low high) (λ z. z) (out_mark m) (λ z. ap is_out z) a y d, λ z. z)
-  range_shows m low high s t u v (Err (Refused r)) w (g, e) h S = (subst (λ x. Shows K (marking m low high ∷ h) x) (sym (w e)) (refused_shows K (marking m low high) h s r g S), λ z. z)
-  range_shows m low high s t u v (Err Unreachable) w (a, y, b) h S = absurd (shows_full K h s S b.slot b.below b.blank)
+  -- a call that marks
+  marking_shows : (c : Call K) (s t : State) (r : Result ℕ Stop) → (Takes K (length s.slots) c → ⊥) → (outward c ≡ true → Removes c) → (Removes c → outward c ≡ true) →
+      ((h : Calls K) (S : Shows K h s) → Allowed K (length s.slots) s.count c → Tells K O S.totals c) → Marking K c s t s t r → ShowsOn K c s t r
+  marking_shows c s t (Ok n) i f g T (a, y, d, e) h S = (marked_shows K O c h s t S (T h S a) i f g a y d, λ z. z)
+  marking_shows c s t (Err (Refused r)) i f g T (k, e) h S = (subst (λ x. Shows K (c ∷ h) x) (sym e) (refused_shows K c h s r k S), λ z. z)
+  marking_shows c s t (Err Unreachable) i f g T (a, y, b) h S = absurd (shows_full K h s S b.slot b.below b.blank)
 
-  pub one_shows : {A : Type 0} (m : Mark) (n : ℕ) (s t : State) (u v : A) (r : Result ℕ Stop) → (v ≡ u → t ≡ s) → Marking K (marking_one m n) s t u v r → ShowsOn K (marking_one m n) s t r
-  one_shows m n s t u v (Ok x) w (a, y, d, e) h S =
-      let i = number_within (length s.slots) s.count n m a in
-      (marked_shows K O (marking_one m n) h s t S (tells_number K O S.totals m n i.0 (omega (arith, S.count, i.1))) (λ z. z) (out_mark m) (λ z. ap is_out z) a y d, λ z. z)
-  one_shows m n s t u v (Err (Refused r)) w (g, e) h S = (subst (λ x. Shows K (marking_one m n ∷ h) x) (sym (w e)) (refused_shows K (marking_one m n) h s r g S), λ z. z)
-  one_shows m n s t u v (Err Unreachable) w (a, y, b) h S = absurd (shows_full K h s S b.slot b.below b.blank)
+  pub range_shows : (m : Mark) (low high : ℕ) (s t : State) (r : Result ℕ Stop) → Marking K (marking m low high) s t s t r → ShowsOn K (marking m low high) s t r
+  range_shows m low high s t r = marking_shows (marking m low high) s t r (λ z. z) (out_mark m) (λ z. ap is_out z) (λ h S a. tells_widths K O S.totals m low high)
+
+  pub one_shows : (m : Mark) (n : ℕ) (s t : State) (r : Result ℕ Stop) → Marking K (marking_one m n) s t s t r → ShowsOn K (marking_one m n) s t r
+  one_shows m n s t r =
+      marking_shows (marking_one m n) s t r (λ z. z) (out_mark m) (λ z. ap is_out z)
+      (λ h S a. let i = number_within (length s.slots) s.count n m a in tells_number K O S.totals m n i.0 (omega (arith, S.count, i.1)))
 
 -- a take
 module _ (K : Kind) (O : Lawful K) (xs : Record K) (entries : ℕ) where
@@ -297,10 +299,10 @@ module _ (K : Kind) (O : Lawful K) (xs : Record K) (entries : ℕ) where
             ap (λ z. get_or z k None) T.slots ∙ get_or_append_left (map row_of (pulses K xs)) (drop (length (pulses K xs)) s.slots) None k (rw length-map l) ∙ get_or-map row_of (pulses K xs) k d None l;
       }
 
-  pub take_shows : {A W : Type 0} (s t : State) (u v : A) (w x : W) (r : Result ℕ Stop) → (v ≡ u → t ≡ s) → Take K xs entries s t u v w x r → ShowsOn K (taking xs entries) s t r
-  take_shows s t u v w x (Ok n) y (a, e, f) h S = (taken_shows h s t a f, λ z. z)
-  take_shows s t u v w x (Err (Refused r)) y (l, e, f) h S = (subst (λ z. Shows K (taking xs entries ∷ h) z) (sym (y e)) (refused_shows K (taking xs entries) h s r l.ground S), λ z. z)
-  take_shows s t u v w x (Err Unreachable) y e h S = absurd e
+  pub take_shows : {W : Type 0} (s t : State) (w x : W) (r : Result ℕ Stop) → Take K xs entries s t s t w x r → ShowsOn K (taking xs entries) s t r
+  take_shows s t w x (Ok n) (a, e, f) h S = (taken_shows h s t a f, λ z. z)
+  take_shows s t w x (Err (Refused r)) (l, e, f) h S = (subst (λ z. Shows K (taking xs entries ∷ h) z) (sym e) (refused_shows K (taking xs entries) h s r l.ground S), λ z. z)
+  take_shows s t w x (Err Unreachable) e h S = absurd e
 
 -- a new sheet
 pub new_shows : (K : Kind) (slots : List (Option Entry)) (outside : Outside) → Shows K [] (opened slots outside)

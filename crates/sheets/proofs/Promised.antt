@@ -144,5 +144,5 @@ promised K O h s S = record {
 }
 
 -- a call that shows the history with itself added keeps the promise
-pub keeps : {A : Type 0} (K : Kind) (O : Lawful K) (c : Call K) (s t : State) (r : Result A Stop) → ShowsOn K c s t r → Keeps K c s t
+pub keeps : (K : Kind) (O : Lawful K) (c : Call K) (s t : State) (r : Result ℕ Stop) → ShowsOn K c s t r → Keeps K c s t
 keeps K O c s t r f h S = promised K O (c ∷ h) t (f h S).0

@@ -1,7 +1,7 @@
 -- What is true of a sheet that shows a history.
 use Rattle.std.proofs.Common.{◌≡◌, ℕ, zero, suc, ◌*◌, ◌<◌, ◌≤◌, Bool, true, false, not, List, [], ◌∷◌, ◌++◌, length, get_or, take, None, sym, refl, ap, ◌∙◌, subst, inl, inr, add-one, arith}
 use Rattle.std.specs.List.{AllByRecursion}
-use Rattle.std.proofs.lemmas.Bool.{cases_Bool, cases_eq, cases_lt, both_ways}
+use Rattle.std.proofs.lemmas.Bool.{cases_Bool, cases_eq, cases_lt}
 use Rattle.std.proofs.lemmas.List.{take_more, take_all, length-take-le}
 use Rattle.std.proofs.ByRecursion.{All-weaker, All-take}
 use Rattle.kinds.specs.Columns.{nought, within}
@@ -16,11 +16,9 @@ use Rattle.splitting.specs.Records.{Accepted}
 use Rattle.sheets.specs.Takes.{State}
 use Rattle.sheets.specs.History.{Calls, Held, row, Shows}
 use Rattle.sheets.specs.Standing.{pulse_of, stands_in, stand_in, left}
-use Rattle.sheets.specs.Inside.{Lacks}
 use Rattle.sheets.proofs.Adding.{unlisted_listed}
 use Rattle.sheets.proofs.Bounds.{Within, Fair, pulses_fair}
 use Rattle.transform.proofs.Ranges.{up_to_bound, up_to_nought, up_to_more, standing_up_to}
-use Rattle.sheets.proofs.History.{shows_full}
 
 module _ (K : Kind) (xs : Record K) (entries capacity : ℕ) (a : Accepted K xs entries capacity) where
   accepted_days : length xs ≤ 1000
@@ -107,7 +105,6 @@ module _ (K : Kind) (h : Calls K) (s : State) (S : Shows K h s) where
         (standing_up_to K O 2 (chosen (λ p. not (S.out p)) (take j (pulses K S.totals))) d
         (all_chosen _ _ (take j (pulses K S.totals)) (All-take _ j (pulses K S.totals) (All-weaker _ _ (λ p q. q.amount) (pulses K S.totals) shown_fair)))))
 
-    -- so it never lacks a value
-    pub never_lacks : (d : ℕ) → Lacks K s.slots s.count d → ⊥
-    never_lacks d (j, l, inl (g, b)) = shows_full K h s S j g b
-    never_lacks d (j, l, inr e) = both_ways _ e (O.roomy _ (up_to_more K.arity K.bound 2000 5000000 _ (omega arith) (standing_small j d l)))
+    -- so the kind has it
+    pub standing_has : (j d : ℕ) → j ≤ s.count → K.has (standing K (stand_in K j s.slots) d) ≡ true
+    standing_has j d l = O.roomy _ (up_to_more K.arity K.bound 2000 5000000 _ (omega arith) (standing_small j d l))

@@ -1,36 +1,18 @@
 -- What marking does to one slot, and to the first slots one after another.
-use Rattle.std.proofs.Common.{◌≡◌, ℕ, zero, suc, ◌+◌, ◌-◌, ◌<◌, ◌≤◌, Bool, true, false, ◌⊎◌, List, length, get_or, set, ℤ, Some, None, Ok, Err, Option, Result, sym, refl, ap, ◌∙◌, subst, inl, inr, add-zero, zero-add, add-one, arith}
+use Rattle.std.proofs.Common.{◌≡◌, ℕ, zero, suc, ◌+◌, ◌-◌, ◌<◌, ◌≤◌, List, length, get_or, Some, None, Ok, Err, Option, Result, sym, refl, ap, ◌∙◌, subst, inl, inr, add-zero, zero-add, add-one, arith}
 use Rattle.sheets.specs.declared.sheet.Stop.{Stop}
-use Rattle.std.proofs.lemmas.List.{set-get_or, length-set, get_or-set_same, get_or-set_other, get_or_past}
-use Rattle.std.proofs.lemmas.Bool.{cases_lt, cases_eq, cases_Bool, and_left, and_right, lt-leb, ne_eqb, eqb-true, eq-eqb}
+use Rattle.std.proofs.lemmas.List.{length-set, get_or-set_same, get_or-set_other, get_or_past}
+use Rattle.std.proofs.lemmas.Bool.{cases_lt, cases_eq, cases_Bool, ne_eqb, eqb-true, eq-eqb}
 use Rattle.kinds.specs.Kinds.{Kind}
 use Rattle.shelves.specs.declared.row.Mark.{Mark}
-use Rattle.shelves.specs.Slots.{Entry, slot_of}
+use Rattle.shelves.specs.Slots.{Entry}
 use Rattle.sheets.specs.declared.sheet.Stop.TheVariants.{Refused, Unreachable}
-use Rattle.sheets.specs.Calls.{Call, marking, marking_one}
-use Rattle.sheets.specs.Marks.{looks, named, outward, marked, change, marks_changed, Marked, Blank}
+use Rattle.sheets.specs.Calls.{Call, marking_one}
+use Rattle.sheets.specs.Marks.{named, outward, marked, change, marks_changed, Marked}
 use Rattle.sheets.specs.Inside.{SlotMarked, SlotsMarked}
 
 pub some_not_none : {A : Type 0} (o : Option A) (a : A) → o ≡ Some a → o ≡ None → ⊥
 some_not_none o a e f = let z : ◌≡◌ {A = ℕ} 0 1 = cc in omega arith
-
--- a slot with a row holds that row
-pub slot_cases : (first width mark : ℕ) (cols : List ℤ) → mark ≤ 1 →
-    (b : Bool) × (slot_of first width mark cols ≡ Some (record { first = first; width = width; out = b; columns = cols }))
-slot_cases first width mark cols h = elim (cases_eq mark 0) [
-  | inl e ↦ (false, rw e refl)
-  | inr e ↦ (true, let z : mark ≡ 1 = omega arith in rw z refl)
-]
-
--- a row that is not named stays
-pub unmarked : (K : Kind) (c : Call K) (k : ℕ) (slots : List (Option Entry)) (e : Entry) → get_or slots k None ≡ Some e → named c k e ≡ false → SlotMarked K c k slots slots (Ok 0)
-unmarked K c k slots e h f = (some_not_none _ _ h, rw (h, f) refl, sym (set-get_or slots k None) ∙ ap (set slots k) (h ∙ rw (h, f) refl))
-
-pub outside_range : (K : Kind) (m : Mark) (low high k : ℕ) (slots : List (Option Entry)) (first width mark : ℕ) (cols : List ℤ) → mark ≤ 1 → get_or slots k None ≡ slot_of first width mark cols →
-    (width < low) ⊎ (high < width) → SlotMarked K (marking m low high) k slots slots (Ok 0)
-outside_range K m low high k slots first width mark cols h e w =
-    let (b, f) = slot_cases first width mark cols h in
-    unmarked K (marking m low high) k slots _ (e ∙ f) (elim w [ inl l ↦ and_left _ _ (lt-leb low width l) | inr l ↦ and_right _ _ (lt-leb width high l) ])
 
 -- a call changes at most one mark in a slot
 change_small : {K : Kind} (c : Call K) (k : ℕ) (o : Option Entry) → change c k o ≤ 1
@@ -68,11 +50,6 @@ module _ (K : Kind) (c : Call K) (before : List (Option Entry)) where
     rw add-one (rw (e, g, m.rest k (omega arith)) refl),
     rw g (change_small c k (get_or here k None)),
   )
-
-  -- or the slot is blank
-  pub marked_blank : (k n : ℕ) (here after : List (Option Entry)) → k < n → looks c k ≡ true → Marked c k before here → SlotMarked K c k here after (Err Unreachable) → Blank c n before after
-  marked_blank k n here after h l m (b, s) =
-      record { slot = k; below = h; looked = l; blank = sym (m.rest k (omega arith)) ∙ b; marked_before = subst (λ t. Marked c k before t) (sym s) m }
 
 -- a call that names one slot alone
 module _ (K : Kind) (m : Mark) (k : ℕ) where

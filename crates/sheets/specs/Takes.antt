@@ -16,6 +16,8 @@ pub record State : Type 0 where
   pub slots : List (Option Entry)
   pub outside : Outside
 
+-- Stays a definition that clauses apply, and no Model of Sheet: a refused call leaves the sheet itself as
+-- it was, and not only its state, and the definitions below compare sheets over different shelves.
 abbrev pub state_of : {V S : Type 0} → (S → List (Option Entry)) → (S → Outside) → Sheet V S → State
 state_of slots outside s =
     record { days = s.days; count = s.pulses; slots = slots s.shelf; outside = outside s.shelf }

@@ -6,7 +6,7 @@ ghost use Rattle.sheets.specs.Marks.{Marking};
 ghost use Rattle.sheets.specs.History.{Continues, Shows};
 ghost use Rattle.sheets.specs.Promise.{Keeps, Promise};
 
-use crate::marks::{mark_number, mark_widths};
+use crate::marks::{Widths, mark_slot, mark_widths};
 use crate::sheet::{Sheet, Stop};
 use kinds::Total;
 use refusals::Refusal;
@@ -34,7 +34,7 @@ impl<K: Total, S: Shelf<K>> Sheet<K, S> {
         ensures history { Continues K.kind (taking (map K.columns totals.now) (length work.old)) (state_of S.slots S.outside self.old) (state_of S.slots S.outside self.new) result }
         ensures promise { Keeps K.kind (taking (map K.columns totals.now) (length work.old)) (state_of S.slots S.outside self.old) (state_of S.slots S.outside self.new) }
     {
-        take_on(self, totals, work)
+        self.take_record(totals, work)
     }
 
     // Marks out every pulse of a width from the lowest to the highest. Answers how many marks
@@ -44,7 +44,7 @@ impl<K: Total, S: Shelf<K>> Sheet<K, S> {
         ensures history { Continues K.kind (removing lowest highest) (state_of S.slots S.outside self.old) (state_of S.slots S.outside self.new) result }
         ensures promise { Keeps K.kind (removing lowest highest) (state_of S.slots S.outside self.old) (state_of S.slots S.outside self.new) }
     {
-        mark_range(self, Mark::Out, lowest, highest)
+        mark_range(self, Mark::Out, Widths { lowest, highest })
     }
 
     // Marks in every pulse of a width from the lowest to the highest. Answers how many marks changed.
@@ -53,7 +53,7 @@ impl<K: Total, S: Shelf<K>> Sheet<K, S> {
         ensures history { Continues K.kind (restoring lowest highest) (state_of S.slots S.outside self.old) (state_of S.slots S.outside self.new) result }
         ensures promise { Keeps K.kind (restoring lowest highest) (state_of S.slots S.outside self.old) (state_of S.slots S.outside self.new) }
     {
-        mark_range(self, Mark::In, lowest, highest)
+        mark_range(self, Mark::In, Widths { lowest, highest })
     }
 
     // Marks out the pulse of a number. Answers how many marks changed.
@@ -75,20 +75,14 @@ impl<K: Total, S: Shelf<K>> Sheet<K, S> {
     }
 }
 
-// A sheet of the empty record begins a history.
+// A sheet of the empty record, which begins a history.
+// Stays apart from `new`, as `take_record`, `mark_range` and `mark_one` from their callers: by a rule
+// of the project a public call has no proof file of its own.
 fn begun<K: Total, S: Shelf<K>>(shelf: S) -> Sheet<K, S>
     ensures shelf { result.shelf ≡ shelf }
     ensures answer { state_of S.slots S.outside result ≡ opened (S.slots shelf) (S.outside shelf) }
     ensures history { Shows K.kind [] (state_of S.slots S.outside result) }
     ensures promise { Promise K.kind [] (state_of S.slots S.outside result) }
-{
-    blank(shelf)
-}
-
-// A sheet of the empty record.
-fn blank<K: Total, S: Shelf<K>>(shelf: S) -> Sheet<K, S>
-    ensures shelf { result.shelf ≡ shelf }
-    ensures answer { state_of S.slots S.outside result ≡ opened (S.slots shelf) (S.outside shelf) }
 {
     Sheet {
         shelf,
@@ -98,34 +92,23 @@ fn blank<K: Total, S: Shelf<K>>(shelf: S) -> Sheet<K, S>
     }
 }
 
-// Takes a record, and so continues the history.
-fn take_on<K: Total, S: Shelf<K>>(
-    sheet: &mut Sheet<K, S>,
-    totals: &[K],
-    work: &mut [WorkEntry<K>],
-) -> Result<usize, Stop>
-    ensures answer { Take K.kind (map K.columns totals.now) (length work.old) (state_of S.slots S.outside sheet.old) (state_of S.slots S.outside sheet.new) sheet.old sheet.new work.old work.new result }
-    ensures history { Continues K.kind (taking (map K.columns totals.now) (length work.old)) (state_of S.slots S.outside sheet.old) (state_of S.slots S.outside sheet.new) result }
-    ensures promise { Keeps K.kind (taking (map K.columns totals.now) (length work.old)) (state_of S.slots S.outside sheet.old) (state_of S.slots S.outside sheet.new) }
-{
-    sheet.take_record(totals, work)
-}
-
-// Sets a mark on every pulse of a width in the range, and so continues the history.
+// Sets a mark on every pulse that has one of the widths.
 fn mark_range<K: Total, S: Shelf<K>>(
     sheet: &mut Sheet<K, S>,
     mark: Mark,
-    low: usize,
-    high: usize,
+    widths: Widths,
 ) -> Result<usize, Stop>
-    ensures answer { Marking K.kind (marking mark low high) (state_of S.slots S.outside sheet.old) (state_of S.slots S.outside sheet.new) sheet.old sheet.new result }
-    ensures history { Continues K.kind (marking mark low high) (state_of S.slots S.outside sheet.old) (state_of S.slots S.outside sheet.new) result }
-    ensures promise { Keeps K.kind (marking mark low high) (state_of S.slots S.outside sheet.old) (state_of S.slots S.outside sheet.new) }
+    ensures answer { Marking K.kind (marking mark widths.lowest widths.highest) (state_of S.slots S.outside sheet.old) (state_of S.slots S.outside sheet.new) sheet.old sheet.new result }
+    ensures history { Continues K.kind (marking mark widths.lowest widths.highest) (state_of S.slots S.outside sheet.old) (state_of S.slots S.outside sheet.new) result }
+    ensures promise { Keeps K.kind (marking mark widths.lowest widths.highest) (state_of S.slots S.outside sheet.old) (state_of S.slots S.outside sheet.new) }
 {
-    change_range(sheet, mark, low, high)
+    if widths.lowest == 0 || widths.lowest > widths.highest || widths.highest > WIDEST {
+        return Err(Stop::Refused(Refusal::WidthsOutOfRange));
+    }
+    mark_widths(&mut sheet.shelf, sheet.pulses, mark, widths)
 }
 
-// Sets a mark on the pulse of a number, and so continues the history.
+// Sets a mark on the pulse of a number.
 fn mark_one<K: Total, S: Shelf<K>>(
     sheet: &mut Sheet<K, S>,
     mark: Mark,
@@ -135,34 +118,8 @@ fn mark_one<K: Total, S: Shelf<K>>(
     ensures history { Continues K.kind (marking_one mark number) (state_of S.slots S.outside sheet.old) (state_of S.slots S.outside sheet.new) result }
     ensures promise { Keeps K.kind (marking_one mark number) (state_of S.slots S.outside sheet.old) (state_of S.slots S.outside sheet.new) }
 {
-    change_one(sheet, mark, number)
-}
-
-// Sets a mark on every pulse of a width in the range.
-fn change_range<K: Total, S: Shelf<K>>(
-    sheet: &mut Sheet<K, S>,
-    mark: Mark,
-    low: usize,
-    high: usize,
-) -> Result<usize, Stop>
-    ensures { Marking K.kind (marking mark low high) (state_of S.slots S.outside sheet.old) (state_of S.slots S.outside sheet.new) sheet.old sheet.new result }
-{
-    if low == 0 || low > high || high > WIDEST {
-        return Err(Stop::Refused(Refusal::WidthsOutOfRange));
-    }
-    mark_widths(&mut sheet.shelf, sheet.pulses, mark, low, high)
-}
-
-// Sets a mark on the pulse of a number.
-fn change_one<K: Total, S: Shelf<K>>(
-    sheet: &mut Sheet<K, S>,
-    mark: Mark,
-    number: usize,
-) -> Result<usize, Stop>
-    ensures { Marking K.kind (marking_one mark number) (state_of S.slots S.outside sheet.old) (state_of S.slots S.outside sheet.new) sheet.old sheet.new result }
-{
     if number == 0 || number > sheet.pulses {
         return Err(Stop::Refused(Refusal::NoSuchPulse));
     }
-    mark_number(&mut sheet.shelf, sheet.pulses, mark, number)
+    mark_slot(&mut sheet.shelf, number - 1, mark)
 }

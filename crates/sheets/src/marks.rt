@@ -1,58 +1,97 @@
 // Marking pulses out and in.
-ghost use Rattle.std.specs.Prelude.{◌≡◌, suc, ◌<◌, ◌≤◌, length, if◌then◌else◌, None, nat_eq, slice_index_or, slice_set};
-ghost use Rattle.shelves.specs.Slots.{shown, slot_of, listed, number as mark_number};
-ghost use Rattle.sheets.specs.Inside.{RowHeld, SlotMarked, SlotsMarked};
+ghost use Rattle.std.specs.Prelude.{◌≡◌, suc, ◌<◌, ◌&&◌, length, if◌then◌else◌, Some, None, nat_le, slice_index_or, slice_set};
+ghost use Rattle.shelves.specs.Slots.{is_out, shown};
+ghost use Rattle.sheets.specs.Inside.{RowHeld, SlotMarked, SlotsMarked, entry_of};
 ghost use Rattle.sheets.specs.Calls.{marking, marking_one};
+ghost use Rattle.sheets.specs.Marks.{remarked};
 
 use crate::sheet::Stop;
 use kinds::Total;
 use shelves::{Mark, Row, Shelf};
 
+// The widths from the lowest to the highest.
+#[derive(Clone, Copy)]
+pub(crate) struct Widths {
+    pub(crate) lowest: usize,
+    pub(crate) highest: usize,
+}
+
+impl Widths {
+    fn holds(self, width: usize) -> bool
+        ensures { result ≡ nat_le self.lowest width && nat_le width self.highest }
+    {
+        self.lowest <= width && width <= self.highest
+    }
+}
+
+// The row that a slot holds, whose mark is in or out.
+#[derive(Clone, Copy)]
+pub(crate) struct HeldRow<K> {
+    pub(crate) first: u16,
+    pub(crate) width: u16,
+    pub(crate) mark: Mark,
+    pub(crate) amount: K,
+}
+
+impl<K: Total> HeldRow<K> {
+    // The row by its numbers, as a shelf takes it.
+    pub(crate) fn row(self) -> Row<K>
+        ensures first { result.first ≡ self.first }
+        ensures width { result.width ≡ self.width }
+        ensures shown { shown K.kind K.columns result ≡ Some (entry_of K.kind K.columns self) }
+    {
+        Row {
+            first: self.first,
+            width: self.width,
+            mark: self.mark.number(),
+            amount: self.amount,
+        }
+    }
+}
+
 // The row in a slot. A slot without one is a state that no list of calls leads to.
-pub(crate) fn held_row<K: Total, S: Shelf<K>>(shelf: &S, slot: usize) -> Result<Row<K>, Stop>
+pub(crate) fn held_row<K: Total, S: Shelf<K>>(shelf: &S, slot: usize) -> Result<HeldRow<K>, Stop>
     ensures { RowHeld K.kind K.columns (S.slots shelf.now) slot result }
 {
-    match shelf.read(slot) {
-        Ok(Some(row)) => Ok(row),
-        Ok(None) => Err(Stop::Unreachable),
-        Err(_) => Err(Stop::Unreachable),
-    }
+    let Ok(Some(row)) = shelf.read(slot) else {
+        return Err(Stop::Unreachable);
+    };
+    let mark = row.state().ok_or(Stop::Unreachable)?;
+    Ok(HeldRow {
+        first: row.first,
+        width: row.width,
+        mark,
+        amount: row.amount,
+    })
 }
 
 // Marks the row in a slot, unless it has that mark. Answers how many marks changed.
-fn mark_row<K: Total, S: Shelf<K>>(shelf: &mut S, slot: usize, row: Row<K>, mark: Mark) -> usize
-    requires { (slot < length (S.slots shelf.old)) × ((row.mark ≤ 1) × (slice_index_or (S.slots shelf.old) slot None ≡ shown K.kind K.columns row)) }
-    ensures answer { result ≡ (if nat_eq row.mark (mark_number mark) then 0 else 1) }
-    ensures slots { S.slots shelf.new ≡ slice_set (S.slots shelf.old) slot (slot_of row.first row.width (mark_number mark) (listed K.kind.arity (K.columns row.amount))) }
+fn mark_row<K: Total, S: Shelf<K>>(shelf: &mut S, slot: usize, row: HeldRow<K>, mark: Mark) -> usize
+    requires { (slot < length (S.slots shelf.old)) × (slice_index_or (S.slots shelf.old) slot None ≡ Some (entry_of K.kind K.columns row)) }
+    ensures answer { result ≡ (if is_out row.mark then (if is_out mark then 0 else 1) else (if is_out mark then 1 else 0)) }
+    ensures slots { S.slots shelf.new ≡ slice_set (S.slots shelf.old) slot (Some (remarked (is_out mark) (entry_of K.kind K.columns row))) }
     ensures outside { S.outside shelf.new ≡ S.outside shelf.old }
 {
-    if row.mark == mark.number() {
+    if row.mark == mark {
         return 0;
     }
-    let marked = Row {
-        first: row.first,
-        width: row.width,
-        mark: mark.number(),
-        amount: row.amount,
-    };
-    let _ = shelf.put(slot, &marked);
+    let marked = HeldRow { mark, ..row };
+    let _ = shelf.put(slot, &marked.row());
     1
 }
 
-// Marks the row in a slot if its width is in the range. Answers how many marks changed.
+// Marks the row in a slot if its width is one of these. Answers how many marks changed.
 fn mark_within<K: Total, S: Shelf<K>>(
     shelf: &mut S,
     slot: usize,
     mark: Mark,
-    low: usize,
-    high: usize,
+    widths: Widths,
 ) -> Result<usize, Stop>
-    ensures slots { SlotMarked K.kind (marking mark low high) slot (S.slots shelf.old) (S.slots shelf.new) result }
+    ensures slots { SlotMarked K.kind (marking mark widths.lowest widths.highest) slot (S.slots shelf.old) (S.slots shelf.new) result }
     ensures outside { S.outside shelf.new ≡ S.outside shelf.old }
 {
     let row = held_row(shelf, slot)?;
-    let width = row.width as usize;
-    if low <= width && width <= high {
+    if widths.holds(row.width as usize) {
         Ok(mark_row(shelf, slot, row, mark))
     } else {
         Ok(0)
@@ -60,7 +99,11 @@ fn mark_within<K: Total, S: Shelf<K>>(
 }
 
 // Marks the row in a slot. Answers how many marks changed.
-fn mark_slot<K: Total, S: Shelf<K>>(shelf: &mut S, slot: usize, mark: Mark) -> Result<usize, Stop>
+pub(crate) fn mark_slot<K: Total, S: Shelf<K>>(
+    shelf: &mut S,
+    slot: usize,
+    mark: Mark,
+) -> Result<usize, Stop>
     ensures slots { SlotMarked K.kind (marking_one mark (suc slot)) slot (S.slots shelf.old) (S.slots shelf.new) result }
     ensures outside { S.outside shelf.new ≡ S.outside shelf.old }
 {
@@ -68,34 +111,19 @@ fn mark_slot<K: Total, S: Shelf<K>>(shelf: &mut S, slot: usize, mark: Mark) -> R
     Ok(mark_row(shelf, slot, row, mark))
 }
 
-// Marks the row of a pulse by its number. Answers how many marks changed.
-pub(crate) fn mark_number<K: Total, S: Shelf<K>>(
-    shelf: &mut S,
-    count: usize,
-    mark: Mark,
-    number: usize,
-) -> Result<usize, Stop>
-    requires { (1 ≤ number) × (number ≤ count) }
-    ensures slots { SlotsMarked K.kind (marking_one mark number) count (S.slots shelf.old) (S.slots shelf.new) result }
-    ensures outside { S.outside shelf.new ≡ S.outside shelf.old }
-{
-    mark_slot(shelf, number - 1, mark)
-}
-
-// Marks the rows of the first slots whose widths are in the range. Answers how many marks changed.
+// Marks the rows of the first slots that have one of these widths. Answers how many marks changed.
 pub(crate) fn mark_widths<K: Total, S: Shelf<K>>(
     shelf: &mut S,
     count: usize,
     mark: Mark,
-    low: usize,
-    high: usize,
+    widths: Widths,
 ) -> Result<usize, Stop>
-    ensures slots { SlotsMarked K.kind (marking mark low high) count (S.slots shelf.old) (S.slots shelf.new) result }
+    ensures slots { SlotsMarked K.kind (marking mark widths.lowest widths.highest) count (S.slots shelf.old) (S.slots shelf.new) result }
     ensures outside { S.outside shelf.new ≡ S.outside shelf.old }
 {
     let mut changed = 0;
     for slot in 0..count {
-        changed += mark_within(shelf, slot, mark, low, high)?;
+        changed += mark_within(shelf, slot, mark, widths)?;
     }
     Ok(changed)
 }

@@ -1,5 +1,9 @@
 ghost use Rattle.std.specs.Prelude.{◌≡◌, map, length};
+ghost use Rattle.sheets.specs.declared.sheet.Stop.TheVariants.{Refused};
 ghost use Rattle.sheets.specs.Takes.{Take, state_of};
+ghost use Rattle.sheets.specs.Calls.{taking};
+ghost use Rattle.sheets.specs.History.{Continues};
+ghost use Rattle.sheets.specs.Promise.{Keeps};
 
 use kinds::Total;
 use refusals::Refusal;
@@ -14,6 +18,14 @@ pub enum Stop {
     Refused(Refusal),
     // a state that no list of calls leads to
     Unreachable,
+}
+
+impl From<Refusal> for Stop {
+    ghost from_gives = { λ refusal stop. stop ≡ Refused refusal };
+
+    fn from(refusal: Refusal) -> Stop {
+        Stop::Refused(refusal)
+    }
 }
 
 // A sheet over a shelf: the pulses of one record, pulse i in slot i - 1.
@@ -33,20 +45,13 @@ impl<K: Total, S: Shelf<K>> Sheet<K, S> {
         totals: &[K],
         work: &mut [WorkEntry<K>],
     ) -> Result<usize, Stop>
-        ensures { Take K.kind (map K.columns totals.now) (length work.old) (state_of S.slots S.outside self.old) (state_of S.slots S.outside self.new) self.old self.new work.old work.new result }
+        ensures answer { Take K.kind (map K.columns totals.now) (length work.old) (state_of S.slots S.outside self.old) (state_of S.slots S.outside self.new) self.old self.new work.old work.new result }
+        ensures history { Continues K.kind (taking (map K.columns totals.now) (length work.old)) (state_of S.slots S.outside self.old) (state_of S.slots S.outside self.new) result }
+        ensures promise { Keeps K.kind (taking (map K.columns totals.now) (length work.old)) (state_of S.slots S.outside self.old) (state_of S.slots S.outside self.new) }
     {
-        let pulses = match split_record(totals, work, &mut self.shelf) {
-            Ok(count) => count,
-            Err(refusal) => return Err(Stop::Refused(refusal)),
-        };
-        self.days = day_count(totals);
+        let pulses = split_record(totals, work, &mut self.shelf)?;
+        self.days = totals.len();
         self.pulses = pulses;
         Ok(pulses)
     }
-}
-
-fn day_count<K: Total>(totals: &[K]) -> usize
-    ensures { result ≡ length (map K.columns totals.now) }
-{
-    totals.len()
 }

@@ -9,10 +9,7 @@ fn cents(value: i64) -> Cents {
 }
 
 fn number(total: Result<Cents, Stop>) -> Option<i64> {
-    match total {
-        Ok(x) => x.column(1),
-        Err(_) => None,
-    }
+    total.ok()?.column(1)
 }
 
 fn code(answer: Result<usize, Stop>) -> usize {

@@ -1,50 +1,52 @@
-use Rattle.std.proofs.Common.{map, length, sym, ap, subst}
-use Rattle.shelves.specs.declared.row.Mark.TheVariants.{In, Out}
+use Rattle.std.proofs.Common.{◌≡◌, ◌≤◌, min, ◌++◌, map, length, take, drop, ap, ◌∙◌, arith}
+use Rattle.std.proofs.lemmas.List.{length-take-le, take-append-drop}
+use Rattle.std.proofs.lemmas.Slice.{drop-append-drop}
 use Rattle.sheets.specs.Takes.{state_of}
-use Rattle.histories.specs.Steps.{call_of, GoesOnWork}
-use Rattle.histories.proofs.Led.{range_goes_on, one_goes_on, goes_on_sheet}
+use Rattle.sheets.specs.Calls.{removing, restoring, removing_one, restoring_one}
+use Rattle.histories.proofs.Led.{marking_goes_on, take_goes_on, part_goes_on}
 use Rattle.histories.proofs.steps.perform.Goals as goal
 
 pub returns-in-Take : goal.returns-in-Take
 returns-in-Take g c =
-    let work =
-    subst (λ p. GoesOnWork g.K.Total.kind (call_of g.K.Total.kind (map g.K.Total.columns c.args.totals.now) (length c.args.work.now) p) (state_of g.S.Shelf.slots g.S.Shelf.outside c.args.sheet.now) (state_of g.S.Shelf.slots g.S.Shelf.outside c.take_part.new.sheet) c.args.work.now c.take_part.new.work)
-    (sym c.in-Take.is)
-    c.take_part.ensures.work in
-    record { sheet = goes_on_sheet _ _ _ _ _ _ work; work = work }
+    let room = c.min-room.result in
+    let work = c.args.work.now in
+    let lent = take room work in
+    let m = c.min-room.ensures in
+    let h : room ≤ length work = omega arith in
+    let e : length lent ≡ room = length-take-le room work h in
+    rw c.in-Take.is
+    (part_goes_on g.K.Total.kind g.K.Total.columns _ _ work (c.take.new.work ++ drop room work) c.args.totals.now c.part.result.now c.in-Take.skipped c.in-Take.days (length lent)
+    (min c.in-Take.entries (length work))
+    c.part.ensures
+    (e ∙ m)
+    (take_goes_on g.K.Total.kind _ _ (map g.K.Total.columns c.part.result.now) (length lent) work (c.take.new.work ++ drop room work) c.args.sheet.now c.take.new.self lent c.take.new.work c.take.result
+    (ap (state_of g.S.Shelf.slots g.S.Shelf.outside))
+    (λ q. ap (λ l. l ++ drop room work) q ∙ take-append-drop room work)
+    (drop-append-drop room work c.take.new.work (length lent) (omega arith) (c.take.auto.work ∙ e))
+    c.take.ensures.answer
+    c.take.ensures.history
+    c.take.ensures.promise))
 
 pub returns-in-Remove : goal.returns-in-Remove
 returns-in-Remove g c =
-    let state = state_of g.S.Shelf.slots g.S.Shelf.outside in
-    let work =
-    subst (λ p. GoesOnWork g.K.Total.kind (call_of g.K.Total.kind (map g.K.Total.columns c.args.totals.now) (length c.args.work.now) p) (state c.args.sheet.now) (state c.remove.new.self) c.args.work.now c.args.work.now)
-    (sym c.in-Remove.is)
-    (range_goes_on g.K.Total.kind (state c.args.sheet.now) (state c.remove.new.self) c.args.work.now Out c.in-Remove.lowest c.in-Remove.highest c.args.sheet.now c.remove.new.self c.remove.result (ap state) c.remove.ensures.answer c.remove.ensures.history c.remove.ensures.promise) in
-    record { sheet = goes_on_sheet _ _ _ _ _ _ work; work = work }
+    rw c.in-Remove.is
+    (marking_goes_on g.K.Total.kind (removing c.in-Remove.lowest c.in-Remove.highest) _ _ c.args.work.now c.args.sheet.now c.remove.new.self c.remove.result
+    (λ a b. (a, b)) (ap (state_of g.S.Shelf.slots g.S.Shelf.outside)) c.remove.ensures.answer c.remove.ensures.history c.remove.ensures.promise)
 
 pub returns-in-Restore : goal.returns-in-Restore
 returns-in-Restore g c =
-    let state = state_of g.S.Shelf.slots g.S.Shelf.outside in
-    let work =
-    subst (λ p. GoesOnWork g.K.Total.kind (call_of g.K.Total.kind (map g.K.Total.columns c.args.totals.now) (length c.args.work.now) p) (state c.args.sheet.now) (state c.restore.new.self) c.args.work.now c.args.work.now)
-    (sym c.in-Restore.is)
-    (range_goes_on g.K.Total.kind (state c.args.sheet.now) (state c.restore.new.self) c.args.work.now In c.in-Restore.lowest c.in-Restore.highest c.args.sheet.now c.restore.new.self c.restore.result (ap state) c.restore.ensures.answer c.restore.ensures.history c.restore.ensures.promise) in
-    record { sheet = goes_on_sheet _ _ _ _ _ _ work; work = work }
+    rw c.in-Restore.is
+    (marking_goes_on g.K.Total.kind (restoring c.in-Restore.lowest c.in-Restore.highest) _ _ c.args.work.now c.args.sheet.now c.restore.new.self c.restore.result
+    (λ a b. (a, b)) (ap (state_of g.S.Shelf.slots g.S.Shelf.outside)) c.restore.ensures.answer c.restore.ensures.history c.restore.ensures.promise)
 
 pub returns-in-RemoveOne : goal.returns-in-RemoveOne
 returns-in-RemoveOne g c =
-    let state = state_of g.S.Shelf.slots g.S.Shelf.outside in
-    let work =
-    subst (λ p. GoesOnWork g.K.Total.kind (call_of g.K.Total.kind (map g.K.Total.columns c.args.totals.now) (length c.args.work.now) p) (state c.args.sheet.now) (state c.remove_one.new.self) c.args.work.now c.args.work.now)
-    (sym c.in-RemoveOne.is)
-    (one_goes_on g.K.Total.kind (state c.args.sheet.now) (state c.remove_one.new.self) c.args.work.now Out c.in-RemoveOne.number c.args.sheet.now c.remove_one.new.self c.remove_one.result (ap state) c.remove_one.ensures.answer c.remove_one.ensures.history c.remove_one.ensures.promise) in
-    record { sheet = goes_on_sheet _ _ _ _ _ _ work; work = work }
+    rw c.in-RemoveOne.is
+    (marking_goes_on g.K.Total.kind (removing_one c.in-RemoveOne.number) _ _ c.args.work.now c.args.sheet.now c.remove_one.new.self c.remove_one.result
+    (λ a b. (a, b)) (ap (state_of g.S.Shelf.slots g.S.Shelf.outside)) c.remove_one.ensures.answer c.remove_one.ensures.history c.remove_one.ensures.promise)
 
 pub returns-in-RestoreOne : goal.returns-in-RestoreOne
 returns-in-RestoreOne g c =
-    let state = state_of g.S.Shelf.slots g.S.Shelf.outside in
-    let work =
-    subst (λ p. GoesOnWork g.K.Total.kind (call_of g.K.Total.kind (map g.K.Total.columns c.args.totals.now) (length c.args.work.now) p) (state c.args.sheet.now) (state c.restore_one.new.self) c.args.work.now c.args.work.now)
-    (sym c.in-RestoreOne.is)
-    (one_goes_on g.K.Total.kind (state c.args.sheet.now) (state c.restore_one.new.self) c.args.work.now In c.in-RestoreOne.number c.args.sheet.now c.restore_one.new.self c.restore_one.result (ap state) c.restore_one.ensures.answer c.restore_one.ensures.history c.restore_one.ensures.promise) in
-    record { sheet = goes_on_sheet _ _ _ _ _ _ work; work = work }
+    rw c.in-RestoreOne.is
+    (marking_goes_on g.K.Total.kind (restoring_one c.in-RestoreOne.number) _ _ c.args.work.now c.args.sheet.now c.restore_one.new.self c.restore_one.result
+    (λ a b. (a, b)) (ap (state_of g.S.Shelf.slots g.S.Shelf.outside)) c.restore_one.ensures.answer c.restore_one.ensures.history c.restore_one.ensures.promise)

@@ -1,22 +1,26 @@
-use Rattle.std.proofs.Common.{ap}
-use Rattle.sheets.specs.Takes.{state_of}
+use Rattle.std.proofs.Common.{Err, rules, arith}
+use Rattle.refusals.specs.declared.refusal.Refusal.TheVariants.{NoSuchPulse}
+use Rattle.sheets.specs.declared.sheet.Stop.TheVariants.{Refused}
+use Rattle.sheets.proofs.Slots.{one_marked_by_number}
 use Rattle.sheets.proofs.History.{one_shows}
 use Rattle.sheets.proofs.Promised.{keeps}
 use Rattle.sheets.proofs.calls.mark_one.Goals as goal
 
-pub returns : goal.returns
-returns g c =
-    let shows =
-    one_shows g.K.Total.kind g.met.K.Total.lawful c.args.mark c.args.number
-    (state_of g.S.Shelf.slots g.S.Shelf.outside c.args.sheet.now)
-    (state_of g.S.Shelf.slots g.S.Shelf.outside c.change_one.new.sheet)
-    c.args.sheet.now
-    c.change_one.new.sheet
-    c.change_one.result
-    (ap (state_of g.S.Shelf.slots g.S.Shelf.outside))
-    c.change_one.ensures in
-    record {
-      answer = c.change_one.ensures;
-      history = shows;
-      promise = keeps g.K.Total.kind g.met.K.Total.lawful _ _ _ c.change_one.result shows;
-    }
+pub returns-then-number-eq0-clause-history : goal.returns-then-number-eq0-clause-history
+returns-then-number-eq0-clause-history g c = one_shows g.K.Total.kind g.met.K.Total.lawful c.args.mark c.args.number _ _ (Err (Refused NoSuchPulse)) (search rules)
+
+pub returns-then-number-eq0-clause-promise : goal.returns-then-number-eq0-clause-promise
+returns-then-number-eq0-clause-promise g c = keeps g.K.Total.kind g.met.K.Total.lawful _ _ _ (Err (Refused NoSuchPulse)) (returns-then-number-eq0-clause-history g c)
+
+pub returns-clause-answer : goal.returns-clause-answer
+returns-clause-answer g c =
+    let m = one_marked_by_number g.K.Total.kind c.args.mark c.args.number c.args.sheet.now.pulses _ _ c.mark_slot.result (omega arith) (omega arith) c.mark_slot.ensures.slots in
+    search rules
+
+pub returns-clause-history : goal.returns-clause-history
+returns-clause-history g c =
+    let m = one_marked_by_number g.K.Total.kind c.args.mark c.args.number c.args.sheet.now.pulses _ _ c.mark_slot.result (omega arith) (omega arith) c.mark_slot.ensures.slots in
+    one_shows g.K.Total.kind g.met.K.Total.lawful c.args.mark c.args.number _ _ c.mark_slot.result (search rules)
+
+pub returns-clause-promise : goal.returns-clause-promise
+returns-clause-promise g c = keeps g.K.Total.kind g.met.K.Total.lawful _ _ _ c.mark_slot.result (returns-clause-history g c)

@@ -1,22 +1,19 @@
-use Rattle.std.proofs.Common.{ap}
-use Rattle.sheets.specs.Takes.{state_of}
+use Rattle.std.proofs.Common.{Err, rules}
+use Rattle.refusals.specs.declared.refusal.Refusal.TheVariants.{WidthsOutOfRange}
+use Rattle.sheets.specs.declared.sheet.Stop.TheVariants.{Refused}
 use Rattle.sheets.proofs.History.{range_shows}
 use Rattle.sheets.proofs.Promised.{keeps}
 use Rattle.sheets.proofs.calls.mark_range.Goals as goal
 
-pub returns : goal.returns
-returns g c =
-    let shows =
-    range_shows g.K.Total.kind g.met.K.Total.lawful c.args.mark c.args.low c.args.high
-    (state_of g.S.Shelf.slots g.S.Shelf.outside c.args.sheet.now)
-    (state_of g.S.Shelf.slots g.S.Shelf.outside c.change_range.new.sheet)
-    c.args.sheet.now
-    c.change_range.new.sheet
-    c.change_range.result
-    (ap (state_of g.S.Shelf.slots g.S.Shelf.outside))
-    c.change_range.ensures in
-    record {
-      answer = c.change_range.ensures;
-      history = shows;
-      promise = keeps g.K.Total.kind g.met.K.Total.lawful _ _ _ c.change_range.result shows;
-    }
+pub returns-then-widths-eq0-clause-history : goal.returns-then-widths-eq0-clause-history
+returns-then-widths-eq0-clause-history g c =
+    range_shows g.K.Total.kind g.met.K.Total.lawful c.args.mark c.args.widths.lowest c.args.widths.highest _ _ (Err (Refused WidthsOutOfRange)) (search rules)
+
+pub returns-then-widths-eq0-clause-promise : goal.returns-then-widths-eq0-clause-promise
+returns-then-widths-eq0-clause-promise g c = keeps g.K.Total.kind g.met.K.Total.lawful _ _ _ (Err (Refused WidthsOutOfRange)) (returns-then-widths-eq0-clause-history g c)
+
+pub returns-clause-history : goal.returns-clause-history
+returns-clause-history g c = range_shows g.K.Total.kind g.met.K.Total.lawful c.args.mark c.args.widths.lowest c.args.widths.highest _ _ c.mark_widths.result (search rules)
+
+pub returns-clause-promise : goal.returns-clause-promise
+returns-clause-promise g c = keeps g.K.Total.kind g.met.K.Total.lawful _ _ _ c.mark_widths.result (returns-clause-history g c)

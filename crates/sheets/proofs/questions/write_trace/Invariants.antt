@@ -6,5 +6,5 @@ use Rattle.sheets.proofs.questions.write_trace.Given as goal
 
 abbrev pub invariant-loop-day : goal.invariant-loop-day
 invariant-loop-day g l =
-    (map g.K.Total.columns (take l.day l.totals) ≡ days g.K.Total.kind l.day (standing_total g.K.Total.kind (state_of g.S.Shelf.slots g.S.Shelf.outside l.sheet))) ×
-    (drop l.day l.totals ≡ drop l.day l.initial.totals)
+    (map g.K.Total.columns (take l.day l.total-items) ≡ days g.K.Total.kind l.day (standing_total g.K.Total.kind (state_of g.S.Shelf.slots g.S.Shelf.outside l.sheet))) ×
+    (drop l.day l.total-items ≡ drop l.day l.initial.total-items)

@@ -1,23 +1,26 @@
-use Rattle.std.proofs.Common.{◌≡◌, ◌+◌, false, ◌&&◌, ltb, leb, ◌⊎◌, sym, ap, ◌∙◌, inl, inr}
+use Rattle.std.proofs.Common.{◌≡◌, ◌+◌, true, false, ◌&&◌, ltb, leb, ◌⊎◌, sym, ap, ◌∙◌, inl, inr, rules, subst}
 use Rattle.kinds.specs.Columns.{plus}
+use Rattle.kinds.specs.Kinds.{Gives}
+use Rattle.shelves.specs.declared.row.Mark.TheVariants.{In}
 use Rattle.transform.proofs.Group.{plus_nought}
-use Rattle.sheets.proofs.Adding.{row_adds, row_adds_none, comes_same}
+use Rattle.sheets.proofs.Adding.{row_adds, row_adds_none}
 use Rattle.sheets.proofs.standing.with_row.Goals as goal
-use Rattle.sheets.proofs.standing.with_row.Goals.{else-row-eq0-via-then-row-eq0+else-covered, else-row-eq0-via-else-row-eq0}
+use Rattle.sheets.proofs.standing.with_row.Goals.{else-eq-via-then-eq+else-covered, else-eq-via-else-eq}
 
 -- the row adds its amount
 pub returns-then-covered : goal.returns-then-covered
 returns-then-covered g c =
-    comes_same g.K.Total.kind g.K.Total.columns _ _ c.with_amount.result
+    let m : c.args.row.mark ≡ In = search rules in
+    subst (λ y. Gives g.K.Total.kind g.K.Total.columns y c.sum.result)
     (ap (plus g.K.Total.kind.arity (g.K.Total.columns c.args.sum))
-    (sym (row_adds g.K.Total.kind c.args.row.first c.args.row.width (g.K.Total.columns c.args.row.amount) c.args.day c.args.row.mark c.if-row-eq0.true (sym c.if-covered.ensures))))
-    c.with_amount.ensures
+    (sym (row_adds g.K.Total.kind c.args.row.first c.args.row.width (g.K.Total.columns c.args.row.amount) c.args.day c.args.row.mark m (sym c.if-covered.ensures))))
+    c.sum.ensures
 
 -- it adds nothing
-pub returns-else-row-eq0 : goal.returns-else-row-eq0
-returns-else-row-eq0 g c =
-    let w : (c.args.row.mark ≡ 0 → ⊥) ⊎ ((leb c.args.row.first c.args.day && ltb c.args.day (c.args.row.first + c.args.row.width)) ≡ false) =
-    elim c.else-row-eq0.branch [ else-row-eq0-via-then-row-eq0+else-covered w ↦ inr (sym w.covered.ensures ∙ w.if-covered.false) | else-row-eq0-via-else-row-eq0 w ↦ inl w.if-row-eq0.false ] in
+pub returns-else-eq : goal.returns-else-eq
+returns-else-eq g c =
+    let w : (c.args.row.mark ≡ In → ⊥) ⊎ ((leb c.args.row.first c.args.day && ltb c.args.day (c.args.row.first + c.args.row.width)) ≡ false) =
+    elim c.else-eq.branch [ else-eq-via-then-eq+else-covered w ↦ inr (sym w.covered.ensures ∙ w.if-covered.false) | else-eq-via-else-eq w ↦ inl (λ e. let f : false ≡ true = rw e at w.if-eq.ensures in cc) ] in
     sym (ap (plus g.K.Total.kind.arity (g.K.Total.columns c.args.sum))
-    (row_adds_none g.K.Total.kind c.args.row.first c.args.row.width (g.K.Total.columns c.args.row.amount) c.args.day c.args.row.mark c.requires w) ∙
+    (row_adds_none g.K.Total.kind c.args.row.first c.args.row.width (g.K.Total.columns c.args.row.amount) c.args.day c.args.row.mark w) ∙
     plus_nought g.K.Total.kind.arity (g.K.Total.columns c.args.sum))

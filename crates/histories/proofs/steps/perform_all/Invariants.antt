@@ -2,7 +2,7 @@ use Rattle.std.proofs.Common.{map, length, take}
 use Rattle.sheets.specs.Takes.{state_of}
 use Rattle.sheets.specs.Promise.{Promise}
 use Rattle.histories.specs.Steps.{calls_of, LeadWork}
-use Rattle.histories.proofs.steps.performed.Given as goal
+use Rattle.histories.proofs.steps.perform_all.Given as goal
 
 abbrev pub invariant-loop-step : goal.invariant-loop-step
 invariant-loop-step g l =
