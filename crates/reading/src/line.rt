@@ -10,7 +10,7 @@ ghost use Rattle.refusals.specs.Faults.{at_figure, at_day, line_found, OnLine};
 use crate::fields::{COMMA, count_fields, cut, field_of_line, start_under};
 use figures::{Heading, NO_COLUMN, first_column, read_figure, second_column};
 use kinds::Total;
-use refusals::{FieldFault, LineFault, on_line};
+use refusals::{FieldFault, LineFault};
 
 const MOST_DAYS: usize = 1000;
 
@@ -131,7 +131,7 @@ fn check_line(names: &[u8], line: &[u8], day: usize, at: usize) -> Result<(), Li
             byte: at,
         });
     }
-    on_line(check_fields(names, line, day, at), number)?;
+    check_fields(names, line, day, at).map_err(|fault| fault.on_line(number))?;
     if day > MOST_DAYS {
         return Err(LineFault::BeyondDays {
             line: number,

@@ -11,7 +11,7 @@ use crate::line::read_line;
 use crate::names::{all_named, check_names};
 use figures::twin_names;
 use kinds::Total;
-use refusals::{FieldFault, FileFault, LineFault, Refusal, on_line};
+use refusals::{FieldFault, FileFault, LineFault, Refusal};
 
 const MOST_BYTES: usize = 40_000;
 
@@ -77,7 +77,7 @@ fn split_names<K: Total>(text: &[u8]) -> Result<(&[u8], &[u8]), LineFault>
     ensures place { Placed result }
 {
     let (names, more) = cut(text, LINE_FEED);
-    on_line(check_names::<K>(names), NAMES_LINE)?;
+    check_names::<K>(names).map_err(|fault| fault.on_line(NAMES_LINE))?;
     let missing = LineFault::InField {
         line: NAMES_LINE,
         fault: FieldFault::BadName { byte: names.len() },
