@@ -1,17 +1,9 @@
 -- Lemmas on trace texts.
-use Rattle.std.proofs.Common.{◌≡◌, ℕ, ◌+◌, Bool, true, false, cond, List, length, ℤ, pos, Some, None, Ok, Err, Option, Result, refl, ap, ◌∙◌, subst, inl, inr, arith}
-use Rattle.std.proofs.lemmas.Bool.{cases_Bool, both_ways, eq-eqb}
-use Rattle.refusals.specs.Table.{number}
+use Rattle.std.proofs.Common.{◌≡◌, ℕ, Bool, true, false, ℤ, pos, Some, None, Option, refl, ap, ◌∙◌, subst, inl, inr, arith}
+use Rattle.std.proofs.lemmas.Bool.{cases_Bool, both_ways}
 use Rattle.kinds.specs.Columns.{Arity, one, two, Each, Columns, nought, replaced, column}
 use Rattle.kinds.specs.Kinds.{Name, cents, pieces, code, code_of, Kind, Of, Lawful, Gives, GivesIf}
-use Rattle.figures.specs.declared.heading.Heading.TheVariants.{Day}
-use Rattle.refusals.specs.declared.fault.FaultAtLine.{FaultAtLine}
-use Rattle.refusals.specs.declared.fault.FieldFault.{FieldFault}
-use Rattle.refusals.specs.declared.fault.FieldFault.TheVariants.{BadFigure, BadDay}
-use Rattle.refusals.specs.Faults.{Finding, at_line, at_figure, at_day, field_refusal, field_byte}
-use Rattle.figures.specs.Headings.{letters}
-use Rattle.reading.specs.Parts.{start_under}
-use Rattle.reading.specs.Traces.{filled, number_under, is_day, malformed, refuse, unless_at, then, check_line}
+use Rattle.reading.specs.Traces.{filled}
 
 pub replaced_first : (a : Arity) (x : ℤ) → replaced a (nought a) 1 x ≡ Some (filled a x (pos 0))
 replaced_first one x = refl

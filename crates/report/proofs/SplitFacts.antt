@@ -1,5 +1,6 @@
 -- From a record that was read to the text of its pulses.
-use Rattle.std.proofs.Common.{◌≡◌, ℕ, ◌≤◌, false, List, [], ◌∷◌, length, Some, None, Ok, Err, Result, sym, ap, ◌∙◌, subst, inl, arith}
+use Rattle.std.proofs.Common.{◌≡◌, ℕ, ◌≤◌, true, false, List, [], ◌∷◌, length, is_ok, IsErrAnd, MatchResult, Some, None, Ok, Err, Result, sym, ap, ◌∙◌, subst, inl, arith}
+use Rattle.std.proofs.lemmas.Bool.{true≢false}
 use Rattle.kinds.specs.Kinds.{Kind}
 use Rattle.refusals.specs.declared.refusal.Refusal.{Refusal}
 use Rattle.refusals.specs.Table.{number}
@@ -31,15 +32,22 @@ write_stop K s before after (Refused r) H T = T
 write_stop K s before after Unreachable (h, S) T = absurd (T h S)
 
 -- a record that is taken: the history goes on, and the text of the sheet is that of its pulses
-module _ (K : Kind) (xs : Record K) (entries : ℕ) (before after : State) (x : Result ℕ Refusal) (T : RecordTaken K xs entries before after x) (n : ℕ) (e : Ok n ≡ x) where
-  taken_well : RecordTaken K xs entries before after (Ok n)
-  taken_well = subst (RecordTaken K xs entries before after) (sym e) T
+module _ (K : Kind) (xs : Record K) (entries : ℕ) (before after : State) where
+  pub taken_on : (x : Result ℕ Refusal) → RecordTaken K xs entries before after x → true ≡ is_ok x → Shows K [] before → (h : Calls K) × Shows K h after
+  taken_on (Ok n) T e S = (taking xs entries ∷ [], T.1 [] S)
+  taken_on (Err r) T e S = absurd (true≢false e)
 
-  pub taken_on : Shows K [] before → (h : Calls K) × Shows K h after
-  taken_on S = (taking xs entries ∷ [], taken_well.1 [] S)
+  due : (x : Result ℕ Refusal) → RecordTaken K xs entries before after x → true ≡ is_ok x → sheet_text K after ≡ pulse_text K (λ p. false) (pulses K xs)
+  due (Ok n) T e = taken_text K xs before after T.0
+  due (Err r) T e = absurd (true≢false e)
 
-  pub due : (out end : List ℕ) (y : Result ℕ Refusal) → Reported (sheet_text K after) out end y → Reported (pulse_text K (λ p. false) (pulses K xs)) out end y
-  due out end y R = subst (λ bs. Reported bs out end y) (taken_text K xs before after taken_well.0) R
+  written : (out end : List ℕ) (y : Result ℕ Refusal) → Reported (pulse_text K (λ p. false) (pulses K xs)) out end y → (r : Result ℕ FileFault) → MatchResult y (λ n. r ≡ Ok n) (λ e. IsErrAnd r (λ f. f ≡ Writing e)) → SplitWritten K xs entries (length before.slots) out end r
+  written out end (Ok n) R r m = rw m R
+  written out end (Err e) R (Ok n) m = absurd m
+  written out end (Err e) R (Err f) m = rw m (only_14 e R.0, R.1)
+
+  pub split_written : (x : Result ℕ Refusal) → RecordTaken K xs entries before after x → true ≡ is_ok x → (out end : List ℕ) (y : Result ℕ Refusal) → Reported (sheet_text K after) out end y → (r : Result ℕ FileFault) → MatchResult y (λ n. r ≡ Ok n) (λ e. IsErrAnd r (λ f. f ≡ Writing e)) → SplitWritten K xs entries (length before.slots) out end r
+  split_written x T e out end y R = written out end y (subst (λ bs. Reported bs out end y) (due x T e) R)
 
 -- a record that was read
 module _ (K : Kind) (text : List ℕ) (room : ℕ) (xs : Record K) (full : room ≡ 1000) (read : read_text K room text ≡ Ok xs) where

@@ -1,16 +1,18 @@
-use Rattle.std.proofs.Common.{rules, ◌≡◌, ◌≤◌, true, [], map, length, take, is_ok, ℕ, ◌+◌, ◌-◌, ◌*◌, ◌<◌, ◌/◌, ◌%◌, Bool, false, nat_eq, nat_lt, List, ◌∷◌, ◌++◌, slice_index_or, slice_set, bit_and, bit_or, Fits, w8, w32, w64, Bor, MutBor}
-use Rattle.kinds.specs.Wholes.{paper, mobile}
+use Rattle.std.proofs.Common.{map, length, take}
 use Rattle.sheets.specs.Takes.{state_of}
-use Rattle.sheets.specs.History.{Calls, Shows}
-use Rattle.reading.specs.Parts.{reach}
-use Rattle.report.specs.PulseTexts.{sheet_text}
-use Rattle.report.specs.Reports.{first_line, names_pieces, report_as, report_of, Reported, most_bytes, ReportsFit, refusal_in, RecordTaken, SplitWritten, PulsesWritten, FaultTold, Told, ShortAlone, OfReport}
+use Rattle.report.proofs.SplitFacts.{taken_on, split_written}
 use Rattle.report.proofs.report.split_and_write.Goals as goal
 
--- src/report.rt:167:5
 pub write_sheet-requires : goal.write_sheet-requires
-write_sheet-requires g c = ?
+write_sheet-requires g c =
+    let s = state_of g.S.Shelf.slots g.S.Shelf.outside c.args.sheet.now in
+    let t = state_of g.S.Shelf.slots g.S.Shelf.outside c.take_front.new.sheet in
+    let xs = map g.K.Total.columns (take c.args.days c.args.totals.now) in
+    taken_on g.K.Total.kind xs (length c.args.work.now) s t c.take_front.result c.take_front.ensures c.in_ok-map_err.ensures.variant c.requires.begun
 
--- src/report.rt:155:1
 pub returns : goal.returns
-returns g c = ?
+returns g c =
+    let s = state_of g.S.Shelf.slots g.S.Shelf.outside c.args.sheet.now in
+    let t = state_of g.S.Shelf.slots g.S.Shelf.outside c.take_front.new.sheet in
+    let xs = map g.K.Total.columns (take c.args.days c.args.totals.now) in
+    split_written g.K.Total.kind xs (length c.args.work.now) s t c.take_front.result c.take_front.ensures c.in_ok-map_err.ensures.variant c.args.out.now c.write_sheet.new.out c.write_sheet.result c.write_sheet.ensures c.map_err-2.result c.map_err-2.ensures.cases
