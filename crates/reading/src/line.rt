@@ -7,7 +7,8 @@ ghost use Rattle.reading.specs.Parts.{fields, start_under};
 ghost use Rattle.reading.specs.Traces.{malformed, number_under, number_if, is_day, filled, entered, check_line, then, read_line, told, Placed};
 ghost use Rattle.refusals.specs.Faults.{at_figure, at_day, line_found, OnLine};
 
-use crate::fields::{COMMA, count_fields, cut, field_of_line, start_under};
+use crate::fields::{count_fields, field_of_line, start_under};
+use crate::walk::Fields;
 use figures::{Heading, NO_COLUMN, first_column, read_figure, second_column};
 use kinds::Total;
 use refusals::{FieldFault, LineFault};
@@ -19,32 +20,21 @@ fn check_figures(line: &[u8], at: usize) -> Result<(), FieldFault>
     requires { at + length line.now < 2 ^ 63 }
     ensures { result ≡ at_figure (malformed at (fields line.now)) }
 {
-    let mut at = at;
-    let mut left = line;
-    loop {
-        let (this, more) = cut(left, COMMA);
-        if read_figure(this).is_none() {
-            return Err(FieldFault::BadFigure { byte: at });
+    for (start, field) in Fields::of(line) {
+        if read_figure(field).is_none() {
+            return Err(FieldFault::BadFigure { byte: at + start });
         }
-        let Some(next) = more else {
-            return Ok(());
-        };
-        at += this.len() + 1;
-        left = next;
     }
+    Ok(())
 }
 
 // The number under a name, 0 where there is none.
 fn number_under(names: &[u8], values: &[u8], name: &[u8]) -> i64
     ensures { result ≡ number_under (fields names.now) (fields values.now) name.now }
 {
-    match field_of_line(names, values, name) {
-        Some(bytes) => match read_figure(bytes) {
-            Some(number) => number,
-            None => 0,
-        },
-        None => 0,
-    }
+    field_of_line(names, values, name)
+        .and_then(|field| read_figure(field))
+        .unwrap_or(0)
 }
 
 // That the line is that of the day, or else where its day stands.

@@ -1,12 +1,12 @@
-use Rattle.std.proofs.Common.{◌≡◌, ◌+◌, length}
+use Rattle.std.proofs.Common.{◌≡◌, length}
+use Rattle.std.specs.Option.{option_map}
 use Rattle.reading.specs.Parts.{fields}
+use Rattle.reading.specs.Places.{places_left}
 use Rattle.reading.specs.Traces.{malformed}
+use Rattle.reading.proofs.PlaceFacts.{Within, malformed_in}
 use Rattle.reading.proofs.line.check_figures.Given as goal
 
-abbrev pub invariant-loop-this : goal.invariant-loop-this
-invariant-loop-this l =
-    (malformed l.at (fields l.left) ≡ malformed l.initial.at (fields l.line))
-    × (l.at + length l.left ≡ l.initial.at + length l.line)
-
-abbrev pub decreases-loop-this : goal.decreases-loop-this
-decreases-loop-this l = length l.left
+abbrev pub invariant-loop-start : goal.invariant-loop-start
+invariant-loop-start l =
+    let left = places_left (option_map (λ x. x.now) l.start-iterator.left) l.start-iterator.length in
+    (malformed_in l.at left ≡ malformed l.at (fields l.line)) × Within (length l.line) left
