@@ -14,16 +14,9 @@ use refusals::FieldFault;
 fn known<K: Total>(name: &[u8]) -> bool
     ensures { result ≡ among name.now (trace_names K.Total.kind) }
 {
-    if name == Heading::Day.letters() {
-        return true;
-    }
-    if name == first_column::<K>().letters() {
-        return true;
-    }
-    match second_column::<K>() {
-        Some(second) => name == second.letters(),
-        None => false,
-    }
+    name == Heading::Day.letters()
+        || name == first_column::<K>().letters()
+        || second_column::<K>().is_some_and(|second| name == second.letters())
 }
 
 // That each name of the line is known and not repeated, or else the leftmost that is not so.
@@ -49,14 +42,7 @@ fn named(names: &[u8], name: &[u8]) -> bool
 pub(crate) fn all_named<K: Total>(names: &[u8]) -> bool
     ensures { result ≡ all_among (trace_names K.Total.kind) (fields names.now) }
 {
-    if !named(names, Heading::Day.letters()) {
-        return false;
-    }
-    if !named(names, first_column::<K>().letters()) {
-        return false;
-    }
-    match second_column::<K>() {
-        Some(second) => named(names, second.letters()),
-        None => true,
-    }
+    named(names, Heading::Day.letters())
+        && named(names, first_column::<K>().letters())
+        && second_column::<K>().is_none_or(|second| named(names, second.letters()))
 }

@@ -7,7 +7,7 @@ ghost use Rattle.refusals.specs.Faults.{line_found, found};
 ghost use Rattle.reading.specs.Traces.{read_lines, read_all, read_text, within_room, counted, told, OfReading, Placed, NamesSplit, Reads, ReadsLines};
 
 use crate::fields::{LINE_FEED, cut};
-use crate::line::read_line;
+use crate::line::DayLine;
 use crate::names::{all_named, check_names};
 use figures::twin_names;
 use kinds::Total;
@@ -44,7 +44,7 @@ fn read_values<K: Total>(
     loop {
         let (line, more) = cut(left, LINE_FEED);
         let Some(next) = more else {
-            if line.len() == 0 {
+            if line.is_empty() {
                 return Ok(days);
             }
             return Err(LineFault::BadCount {
@@ -52,7 +52,13 @@ fn read_values<K: Total>(
                 byte: at,
             });
         };
-        let total = read_line::<K>(names, line, days + 1, at)?;
+        let day_line = DayLine {
+            names,
+            values: line,
+            day: days + 1,
+            start: at,
+        };
+        let total = day_line.read::<K>()?;
         keep(totals, days, total);
         days += 1;
         at += line.len() + 1;
