@@ -1,12 +1,14 @@
 -- Lemmas on records that are written.
-use Rattle.std.proofs.Common.{◌≡◌, ℕ, ◌+◌, ◌<◌, ◌≤◌, false, cond, ltb, List, [], ◌∷◌, ◌++◌, map, length, get_or, take, drop, Some, None, Ok, Option, sym, ap, ◌∙◌, arith}
+use Rattle.std.proofs.Common.{◌≡◌, ℕ, ◌+◌, ◌<◌, ◌≤◌, false, cond, ltb, List, [], ◌∷◌, ◌++◌, map, length, get_or, take, drop, Some, None, Ok, Err, Option, Result, sym, ap, ◌∙◌, arith}
 use Rattle.std.proofs.lemmas.List.{length-append, length-map, drop_more, drop_all, take_at, drop_at}
 use Rattle.std.proofs.lemmas.Bool.{le-ltb, ltb-false}
+use Rattle.std.specs.Result.{result_ok}
 use Rattle.kinds.specs.Columns.{within}
 use Rattle.kinds.specs.Kinds.{Kind, Of}
+use Rattle.reading.specs.Traces.{told}
 use Rattle.writing.specs.Texts.{trace_values, trace_lines, not_entered, in_room, unless_day, WritesRecord}
 use Rattle.writer.specs.Values.{line, shown}
-use Rattle.writer.specs.Written.{pasted, Writes}
+use Rattle.writer.specs.Written.{pasted, Writes, Moves}
 use Rattle.writer.proofs.WrittenFacts.{pasted_append, pasted_none}
 
 module _ {V : Type 0} (K : Kind) (columns : V → Of K) where
@@ -40,6 +42,14 @@ module _ {V : Type 0} (K : Kind) (columns : V → Of K) where
 
   pub entered_all : (day : ℕ) (xs : List V) (i : ℕ) → length xs ≤ i → not_entered K day (map columns (drop i xs)) ≡ None
   entered_all day xs i h = ap (not_entered K day) (no_day xs i h)
+
+-- a text that went on has its bytes in the buffer
+pub went_on : {X E : Type 0} (place : X → ℕ) (kept : E → ℕ) (at : ℕ) (bytes before after : List ℕ) (r : Result X E) (x : X) → Moves at bytes before after (told place kept r) → Some x ≡ result_ok r → (after ≡ pasted at bytes before) × (place x ≡ at + length bytes)
+went_on place kept at bytes before after (Ok y) x m e = (m.0, ap place (the_same x y e) ∙ m.1)
+  where
+    the_same : {X : Type 0} (x y : X) → Some x ≡ Some y → x ≡ y
+    the_same x y e = cc
+went_on place kept at bytes before after (Err y) x m e = cc
 
 -- a text at the start of a buffer
 pub text_written : (text before after : List ℕ) (bytes : ℕ) → Writes 0 text before after (Some bytes) → (in_room (length before) text ≡ Ok (take bytes after)) × (bytes ≤ length after) × (drop bytes after ≡ drop bytes before)
