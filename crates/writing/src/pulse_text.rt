@@ -24,6 +24,7 @@ pub struct PulseLine<K> {
 }
 
 // The names of a pulse text: those of the kind's columns stand between `first` and `state`.
+#[tactic(auto, unfolding(crate::specs::Texts::pulse_names))]
 fn pulse_names<K: Total>() -> Fields<Heading, 5, 6>
     ensures { fields result ≡ pulse_names K.Total.kind }
 {
@@ -55,6 +56,7 @@ pub(crate) fn first_of<K: Total>(total: K) -> i64
 }
 
 // The second column of a total, if it has one.
+#[tactic(auto, using(figures::proofs::HeadingFacts::column_second))]
 pub(crate) fn second_of<K: Total>(total: K) -> Option<i64>
     ensures { result ≡ second K.Total.kind.arity (K.Total.columns total) }
 {
@@ -62,6 +64,7 @@ pub(crate) fn second_of<K: Total>(total: K) -> Option<i64>
 }
 
 // The values of the line of a pulse.
+#[tactic(auto, unfolding(crate::specs::Texts::pulse_values))]
 fn pulse_values<K: Total>(pulse: PulseLine<K>) -> Fields<Value, 5, 6>
     ensures { fields result ≡ pulse_values K.Total.kind pulse.number pulse.width pulse.first (K.Total.columns pulse.amount) pulse.state }
 {
@@ -129,12 +132,14 @@ fn one_line(named: Lines, values: &[Value], out: &mut [u8]) -> Option<usize>
     Some(text.end().length())
 }
 
+#[tactic(auto, unfolding(crate::specs::Texts::refusal_names))]
 fn refusal_names() -> [Heading; 3]
     ensures { result ≡ refusal_names }
 {
     [Heading::Refusal, Heading::Line, Heading::Byte]
 }
 
+#[tactic(auto, unfolding(crate::specs::Texts::refusal_values))]
 fn refusal_values(number: u8, place: Place) -> [Value; 3]
     ensures { result ≡ refusal_values number place }
 {

@@ -17,6 +17,7 @@ use writer::{Lines, Naming, Value, room_behind};
 const MOST_DAYS: usize = 1000;
 
 // The names of a trace text: `day` and those of the kind's columns.
+#[tactic(auto, unfolding(crate::specs::Texts::trace_headings))]
 fn trace_names<K: Total>() -> Fields<Heading, 2, 3>
     ensures { fields result ≡ trace_headings K.Total.kind }
 {
@@ -28,6 +29,7 @@ fn trace_names<K: Total>() -> Fields<Heading, 2, 3>
 }
 
 // The values of the line of a day.
+#[tactic(auto, unfolding(crate::specs::Texts::trace_values))]
 fn trace_values<K: Total>(day: usize, total: K) -> Fields<Value, 2, 3>
     ensures { fields result ≡ trace_values K.Total.kind day (K.Total.columns total) }
 {
