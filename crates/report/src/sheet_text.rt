@@ -1,14 +1,13 @@
 // The pulse text of a sheet.
 ghost use Rattle.std.specs.Prelude.{◌≡◌, ◌+◌, ◌≤◌, length};
-ghost use Rattle.shelves.specs.Slots.{is_out};
 ghost use Rattle.sheets.specs.Takes.{state_of};
 ghost use Rattle.reading.specs.Traces.{told};
-ghost use Rattle.report.specs.PulseTexts.{state as stated, slot_line, row_lines, sheet_text, Stopped, TextWritten, TextTold, RoomLeft, PartWritten, LineGiven};
+ghost use Rattle.report.specs.PulseTexts.{slot_line, row_lines, sheet_text, Stopped, TextWritten, TextTold, RoomLeft, PartWritten, LineGiven};
 
 use kinds::Total;
 use refusals::Refusal;
 use sheets::{Sheet, Stop};
-use shelves::{Mark, Shelf};
+use shelves::Shelf;
 use writer::{Lines, Naming, Word};
 use writing::{
     PulseLine, room_behind_pulse, room_behind_pulse_names, write_pulse, write_pulse_names,
@@ -138,16 +137,6 @@ fn line_of<K: Total, S: Shelf<K>>(
         width: pulse.stretch.width as usize,
         first: pulse.stretch.first as usize,
         amount: pulse.amount,
-        state: state_of(pulse.mark),
+        state: Word::from(pulse.mark),
     })
-}
-
-// The word for a mark.
-fn state_of(mark: Mark) -> Word
-    ensures { result ≡ stated (is_out mark) }
-{
-    match mark {
-        Mark::In => Word::In,
-        Mark::Out => Word::Out,
-    }
 }

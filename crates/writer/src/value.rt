@@ -1,10 +1,13 @@
 // What may stand in a line that is written: the names of columns, numbers and words.
-ghost use Rattle.std.specs.Prelude.{◌≡◌, ℕ, List};
+ghost use Rattle.std.specs.Prelude.{◌≡◌, ℕ, List, if◌then◌else◌};
+ghost use Rattle.shelves.specs.Slots.{is_out};
+ghost use Rattle.writer.specs.declared.value.Word.TheVariants.{In, Out};
 ghost use Rattle.writer.specs.Values.{shown, spelled};
 ghost use Rattle.figures.specs.Headings.{letters};
 
 use figures::Heading;
 use itoa::Buffer;
+use shelves::Mark;
 
 // Whether a pulse stands in the trace or was taken out.
 #[derive(Clone, Copy)]
@@ -20,6 +23,17 @@ impl Word {
         match self {
             Word::In => b"in",
             Word::Out => b"out",
+        }
+    }
+}
+
+impl From<Mark> for Word {
+    ghost from_gives = { λ mark word. word ≡ if is_out mark then Out else In };
+
+    fn from(mark: Mark) -> Word {
+        match mark {
+            Mark::In => Word::In,
+            Mark::Out => Word::Out,
         }
     }
 }
