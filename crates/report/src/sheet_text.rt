@@ -60,17 +60,12 @@ fn room_behind_text<K: Total, S: Shelf<K>>(sheet: &Sheet<K, S>, room: usize) -> 
 }
 
 // The same behind the lines of its pulses.
-#[tactic(
-    auto,
-    using(
-        crate::proofs::TextFacts::rows_none,
-        crate::proofs::TextFacts::rows_longer
-    )
-)]
+#[tactic(auto, using(crate::proofs::TextFacts::rows_none, crate::proofs::TextFacts::rows_longer))]
 fn room_behind_lines<K: Total, S: Shelf<K>>(sheet: &Sheet<K, S>, room: usize) -> Result<usize, Stop>
     ensures { RoomLeft K.kind (state_of S.slots S.outside sheet.now) (length (row_lines K.kind (state_of S.slots S.outside sheet.now).count (state_of S.slots S.outside sheet.now).slots)) room result }
 {
     let mut left = room;
+    // Not over `1..=`: such a loop ends at two places, and its proof is twice as long.
     for done in 0..sheet.pulses() {
         left = room_behind_line(sheet, done + 1, left)?;
     }
@@ -124,10 +119,7 @@ fn write_line<K: Total, S: Shelf<K>>(
 }
 
 // What the line of the pulse of a number tells.
-fn line_of<K: Total, S: Shelf<K>>(
-    sheet: &Sheet<K, S>,
-    number: usize,
-) -> Result<PulseLine<K>, Stop>
+fn line_of<K: Total, S: Shelf<K>>(sheet: &Sheet<K, S>, number: usize) -> Result<PulseLine<K>, Stop>
     requires { (1 ≤ number) × (number ≤ (state_of S.slots S.outside sheet.now).count) }
     ensures { LineGiven K.kind K.columns (state_of S.slots S.outside sheet.now) number result }
 {

@@ -5,8 +5,8 @@
 use kinds::{Cents, CentsUnit, Pair, Pieces, PiecesUnit, Total, Whole};
 use std::io;
 use text::{
-    FileFault, Lines, Naming, PulseLine, Value, Word, field, read_figure, read_trace,
-    write_pulse, write_pulse_names, write_refusal, write_trace,
+    FileFault, Lines, Naming, PulseLine, Value, Word, field, read_figure, read_trace, write_pulse,
+    write_pulse_names, write_refusal, write_trace,
 };
 
 type Paper = Cents;

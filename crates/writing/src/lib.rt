@@ -6,6 +6,7 @@ mod pulse_text;
 mod record_text;
 
 pub use pulse_text::{
-    PulseLine, room_behind_pulse, room_behind_pulse_names, write_pulse, write_pulse_names, write_refusal,
+    PulseLine, room_behind_pulse, room_behind_pulse_names, write_pulse, write_pulse_names,
+    write_refusal,
 };
 pub use record_text::{texts_agree, write_trace};
