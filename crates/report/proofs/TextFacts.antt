@@ -1,5 +1,5 @@
 -- Lemmas on the pulse text of a sheet.
-use Rattle.std.proofs.Common.{◌≡◌, ℕ, zero, suc, ◌+◌, ◌-◌, ◌<◌, ◌≤◌, Bool, List, [], ◌∷◌, ◌++◌, length, get_or, take, Some, None, Ok, Err, Option, Result, sym, refl, ap, ◌∙◌, subst, inl, inr, add-one, arith}
+use Rattle.std.proofs.Common.{◌≡◌, ℕ, zero, suc, ◌+◌, ◌-◌, ◌<◌, ◌≤◌, Bool, List, [], ◌∷◌, ◌++◌, length, get_or, take, Some, None, Ok, Err, Option, Result, sym, refl, ap, ◌∙◌, subst, add-one, arith}
 use Rattle.std.proofs.lemmas.List.{append-nil, append_assoc, length-append, length-take-le, take_more, take_all}
 use Rattle.kinds.specs.Columns.{Arity, one, two, Columns, nought}
 use Rattle.kinds.specs.Kinds.{Kind, Of}
@@ -18,7 +18,6 @@ use Rattle.writing.specs.Texts.{pulse_names, pulse_values}
 use Rattle.writer.specs.Values.{line, shown}
 use Rattle.writer.specs.Written.{pasted}
 use Rattle.writer.proofs.WrittenFacts.{pasted_none, pasted_append}
-use Rattle.report.proofs.ShortFacts.{only_14}
 use Rattle.report.specs.PulseTexts.{CutShort, Stopped, state, pulse_line, pulse_lines, row_line, slot_line, row_lines, sheet_text, TextWritten, TextTold, RoomLeft, PartWritten}
 
 pub unlisted_listed : (a : Arity) (x : Columns a) → unlisted a (listed a x) ≡ x
@@ -33,12 +32,6 @@ listed_line K columns s n p w l e =
     ∙ (ap (λ x. line shown (pulse_values K n p.stretch.width p.stretch.first x (state (is_out p.mark)))) (unlisted_listed K.arity (columns p.amount))
     ∙ ap (λ v. line shown (pulse_values K n p.stretch.width p.stretch.first (columns p.amount) v)) (sym e))
 
--- a pulse of a number within the count is not refused
-pub room_stop : {V : Type 0} (K : Kind) (columns : V → Of K) (s : State) (n bytes room : ℕ) (stop : Stop) → 1 ≤ n → n ≤ s.count → Listed K columns s n (Err stop) → RoomLeft K s bytes room (Err stop)
-room_stop K columns s n bytes room (Refused r) l h (e, inl z) = absurd (omega arith)
-room_stop K columns s n bytes room (Refused r) l h (e, inr z) = absurd (omega arith)
-room_stop K columns s n bytes room Unreachable l h u = u
-
 -- bytes of which none are written
 pub cut_none : (at : ℕ) (bytes out : List ℕ) → CutShort at bytes out out
 cut_none at bytes out = record { part = []; rest = bytes; whole = refl; written = sym (pasted_none at out) }
@@ -51,11 +44,6 @@ cut_more start at a b c before now after l e f k = record {
   whole = ap (λ z. a ++ (z ++ c)) k.whole ∙ (ap (λ z. a ++ z) (append_assoc k.part k.rest c) ∙ sym (append_assoc a k.part (k.rest ++ c)));
   written = k.written ∙ (ap (λ n. pasted n k.part now) f ∙ (ap (pasted (start + length a) k.part) e ∙ pasted_append start a k.part before l));
 }
-
-pub part_stop : {V : Type 0} (K : Kind) (columns : V → Of K) (s : State) (n at : ℕ) (bytes out : List ℕ) (stop : Stop) → 1 ≤ n → n ≤ s.count → Listed K columns s n (Err stop) → PartWritten K s at bytes out out (Err stop) × Stopped at bytes out out (Err stop)
-part_stop K columns s n at bytes out (Refused r) l h (e, inl z) = absurd (omega arith)
-part_stop K columns s n at bytes out (Refused r) l h (e, inr z) = absurd (omega arith)
-part_stop K columns s n at bytes out Unreachable l h u = (u, cut_none at bytes out)
 
 -- the lines of the first slots
 pub rows_none : (K : Kind) (slots : List (Option Entry)) → row_lines K 0 slots ≡ []
@@ -125,12 +113,6 @@ rows_stop K s slot room left (Refused r) h e (n, l) =
     (n, omega arith)
 rows_stop K s slot room left Unreachable h e u = u
 
--- some bytes, and then others
-pub room_behind : (K : Kind) (s : State) (a b c room left : ℕ) (r : Result ℕ Stop) → c ≡ a + b → room ≡ a + left → RoomLeft K s b left r → RoomLeft K s c room r
-room_behind K s a b c room left (Ok n) e f h = omega arith
-room_behind K s a b c room left (Err (Refused r)) e f (n, l) = (n, omega arith)
-room_behind K s a b c room left (Err Unreachable) e f u = u
-
 -- one line more is written
 pub write_more : (K : Kind) (slots : List (Option Entry)) (i start at end : ℕ) (before now after : List ℕ) → start ≤ length before →
     now ≡ pasted start (row_lines K i slots) before → at ≡ start + length (row_lines K i slots) →
@@ -143,21 +125,6 @@ write_more K slots i start at end before now after l a b c d = (
       ∙ ap (λ bs. pasted start bs before) (sym (rows_more K slots i))))),
   omega (arith, rows_longer K slots i),
 )
-
--- a line that is due, known by other bytes
-pub line_written : (at end : ℕ) (due bytes before after : List ℕ) → due ≡ bytes → after ≡ pasted at bytes before → end ≡ at + length bytes → (after ≡ pasted at due before) × (end ≡ at + length due)
-line_written at end due bytes before after e a b = (a ∙ ap (λ bs. pasted at bs before) (sym e), b ∙ ap (λ bs. at + length bs) (sym e))
-
--- a text that has room is written, and one that has none is not
-pub text_in : (K : Kind) (s : State) (left : ℕ) (before after : List ℕ) (r : Result ℕ Stop) → length before ≡ length (sheet_text K s) + left → PartWritten K s 0 (sheet_text K s) before after r → Stopped 0 (sheet_text K s) before after r →
-    TextWritten K s before after r × Stopped 0 (sheet_text K s) before after r
-text_in K s left before after (Ok n) e (w, l) k = ((w, l, omega arith), tt)
-text_in K s left before after (Err (Refused r)) e h k = absurd h
-text_in K s left before after (Err Unreachable) e u k = (u, k)
-
-pub text_out : (K : Kind) (s : State) (out : List ℕ) (stop : Stop) → RoomLeft K s (length (sheet_text K s)) (length out) (Err stop) → TextWritten K s out out (Err stop) × Stopped 0 (sheet_text K s) out out (Err stop)
-text_out K s out (Refused r) (n, l) = ((n, (refl, omega arith)), only_14 r n)
-text_out K s out Unreachable u = (u, cut_none 0 (sheet_text K s) out)
 
 -- the lines of the rows are those of the pulses
 lines_append : (K : Kind) (out : Pulse K → Bool) (n : ℕ) (ps qs : List (Pulse K)) → pulse_lines K out n (ps ++ qs) ≡ pulse_lines K out n ps ++ pulse_lines K out (n + length ps) qs

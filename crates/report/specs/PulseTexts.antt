@@ -1,7 +1,7 @@
 -- The pulse text of a sheet.
 use Rattle.std.specs.Prelude.{◌≡◌, ℕ, zero, suc, ◌+◌, ◌-◌, ◌<◌, Bool, cond, List, [], ◌∷◌, ◌++◌, length, Some, None, Ok, Err, Decides, Option, Result, slice_index_or}
 use Rattle.std.specs.List.{ContainsAt as Has}
-use Rattle.kinds.specs.Kinds.{Kind}
+use Rattle.kinds.specs.Kinds.{Kind, Of}
 use Rattle.refusals.specs.declared.refusal.Refusal.TheVariants.{OutputTooShort}
 use Rattle.refusals.specs.Table.{number}
 use Rattle.shelves.specs.Slots.{Entry}
@@ -16,6 +16,7 @@ use Rattle.sheets.specs.Questions.{Unled}
 use Rattle.writer.specs.declared.value.Word.{Word}
 use Rattle.writer.specs.declared.value.Word.TheVariants.{In as word_in, Out as word_out}
 use Rattle.figures.specs.Headings.{letters}
+use Rattle.writing.specs.declared.pulse_text.PulseLine.{PulseLine}
 use Rattle.writing.specs.Texts.{pulse_names, pulse_values}
 use Rattle.writer.specs.Values.{line, shown}
 use Rattle.writer.specs.Written.{pasted, Writes}
@@ -100,3 +101,11 @@ abbrev pub PartWritten : (K : Kind) → State → ℕ → List ℕ → List ℕ 
 PartWritten K s at bytes before after (Ok end) = (after ≡ pasted at bytes before) × (end ≡ at + length bytes)
 PartWritten K s at bytes before after (Err (Refused r)) = ⊥
 PartWritten K s at bytes before after (Err Unreachable) = Unled K s
+
+-- the line of a pulse as it is handed to the writer: it is the line of its row, or no list of calls
+-- leads here
+abbrev pub LineGiven : {V : Type 0} (K : Kind) (columns : V → Of K) → State → ℕ → Result (PulseLine V) Stop → Type 0
+LineGiven K columns s n (Ok l) =
+    slot_line K s.slots n ≡ line shown (pulse_values K l.number l.width l.first (columns l.amount) l.state)
+LineGiven K columns s n (Err (Refused r)) = ⊥
+LineGiven K columns s n (Err Unreachable) = Unled K s

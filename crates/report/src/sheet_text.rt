@@ -1,16 +1,19 @@
 // The pulse text of a sheet.
 ghost use Rattle.std.specs.Prelude.{◌≡◌, ◌+◌, ◌≤◌, length};
-ghost use Rattle.shelves.specs.Slots.{is_out};
 ghost use Rattle.sheets.specs.Takes.{state_of};
 ghost use Rattle.reading.specs.Traces.{told};
-ghost use Rattle.report.specs.PulseTexts.{state as stated, slot_line, row_lines, sheet_text, Stopped, TextWritten, TextTold, RoomLeft, PartWritten};
+ghost use Rattle.report.specs.PulseTexts.{slot_line, row_lines, sheet_text, Stopped, TextWritten, TextTold, RoomLeft, PartWritten, LineGiven};
 
 use kinds::Total;
 use refusals::Refusal;
 use sheets::{Sheet, Stop};
-use shelves::{Mark, Shelf};
+use shelves::Shelf;
 use writer::{Lines, Naming, Word};
-use writing::{room_behind_pulse, room_behind_pulse_names, write_pulse, write_pulse_names};
+use writing::{
+    PulseLine, room_behind_pulse, room_behind_pulse_names, write_pulse, write_pulse_names,
+};
+
+const TOO_SHORT: Stop = Stop::Refused(Refusal::OutputTooShort);
 
 // Writes the pulse text of a sheet and answers its bytes. Where the buffer is too short for all of
 // them it is left alone.
@@ -22,27 +25,17 @@ pub fn write_pulses<K: Total, S: Shelf<K>>(
     ensures stop { Stopped 0 (sheet_text K.kind (state_of S.slots S.outside sheet.now)) out.old out.new result }
     ensures history { TextTold K.kind (state_of S.slots S.outside sheet.now) result }
 {
-    tell_pulses(sheet, out)
+    write_text(sheet, out)
 }
 
-// The same, with what the text is to the history of the sheet.
-fn tell_pulses<K: Total, S: Shelf<K>>(sheet: &Sheet<K, S>, out: &mut [u8]) -> Result<usize, Stop>
+// The same. The room is tested first, so that the lines that follow cannot fail.
+fn write_text<K: Total, S: Shelf<K>>(sheet: &Sheet<K, S>, out: &mut [u8]) -> Result<usize, Stop>
     ensures answer { TextWritten K.kind (state_of S.slots S.outside sheet.now) out.old out.new result }
     ensures stop { Stopped 0 (sheet_text K.kind (state_of S.slots S.outside sheet.now)) out.old out.new result }
     ensures history { TextTold K.kind (state_of S.slots S.outside sheet.now) result }
 {
-    write_text(sheet, out)
-}
-
-// The room is tested first, so that the lines that follow cannot fail.
-fn write_text<K: Total, S: Shelf<K>>(sheet: &Sheet<K, S>, out: &mut [u8]) -> Result<usize, Stop>
-    ensures answer { TextWritten K.kind (state_of S.slots S.outside sheet.now) out.old out.new result }
-    ensures stop { Stopped 0 (sheet_text K.kind (state_of S.slots S.outside sheet.now)) out.old out.new result }
-{
-    match room_behind_text(sheet, out.len()) {
-        Ok(_) => write_whole(sheet, out),
-        Err(stop) => Err(stop),
-    }
+    room_behind_text(sheet, out.len())?;
+    write_whole(sheet, out)
 }
 
 // Writes the text into a buffer that has room.
@@ -51,36 +44,30 @@ fn write_whole<K: Total, S: Shelf<K>>(sheet: &Sheet<K, S>, out: &mut [u8]) -> Re
     ensures answer { PartWritten K.kind (state_of S.slots S.outside sheet.now) 0 (sheet_text K.kind (state_of S.slots S.outside sheet.now)) out.old out.new result }
     ensures stop { Stopped 0 (sheet_text K.kind (state_of S.slots S.outside sheet.now)) out.old out.new result }
 {
-    match write_pulse_names::<K>(Naming::begin(), out) {
-        Ok(text) => match write_lines(sheet, text, out) {
-            Ok(text) => Ok(text.end().length()),
-            Err(stop) => Err(stop),
-        },
-        Err(_) => Err(Stop::Unreachable),
-    }
+    let Ok(named) = write_pulse_names::<K>(Naming::begin(), out) else {
+        return Err(Stop::Unreachable);
+    };
+    let text = write_lines(sheet, named, out)?;
+    Ok(text.end().length())
 }
 
 // What is left of so many bytes behind the pulse text of a sheet.
 fn room_behind_text<K: Total, S: Shelf<K>>(sheet: &Sheet<K, S>, room: usize) -> Result<usize, Stop>
     ensures { RoomLeft K.kind (state_of S.slots S.outside sheet.now) (length (sheet_text K.kind (state_of S.slots S.outside sheet.now))) room result }
 {
-    match room_behind_pulse_names::<K>(room) {
-        Some(left) => room_behind_lines(sheet, left),
-        None => Err(Stop::Refused(Refusal::OutputTooShort)),
-    }
+    let left = room_behind_pulse_names::<K>(room).ok_or(TOO_SHORT)?;
+    room_behind_lines(sheet, left)
 }
 
 // The same behind the lines of its pulses.
+#[tactic(auto, using(crate::proofs::TextFacts::rows_none, crate::proofs::TextFacts::rows_longer))]
 fn room_behind_lines<K: Total, S: Shelf<K>>(sheet: &Sheet<K, S>, room: usize) -> Result<usize, Stop>
     ensures { RoomLeft K.kind (state_of S.slots S.outside sheet.now) (length (row_lines K.kind (state_of S.slots S.outside sheet.now).count (state_of S.slots S.outside sheet.now).slots)) room result }
 {
-    let count = sheet.pulses();
     let mut left = room;
-    for done in 0..count {
-        match room_behind_line(sheet, done + 1, left) {
-            Ok(less) => left = less,
-            Err(stop) => return Err(stop),
-        }
+    // Not over `1..=`: such a loop ends at two places, and its proof is twice as long.
+    for done in 0..sheet.pulses() {
+        left = room_behind_line(sheet, done + 1, left)?;
     }
     Ok(left)
 }
@@ -94,17 +81,8 @@ fn room_behind_line<K: Total, S: Shelf<K>>(
     requires { (1 ≤ number) × (number ≤ (state_of S.slots S.outside sheet.now).count) }
     ensures { RoomLeft K.kind (state_of S.slots S.outside sheet.now) (length (slot_line K.kind (state_of S.slots S.outside sheet.now).slots number)) room result }
 {
-    match sheet.pulse(number) {
-        Ok(pulse) => {
-            let width = pulse.stretch.width as usize;
-            let day = pulse.stretch.first as usize;
-            match room_behind_pulse(number, width, day, pulse.amount, state_of(pulse.mark), room) {
-                Some(left) => Ok(left),
-                None => Err(Stop::Refused(Refusal::OutputTooShort)),
-            }
-        }
-        Err(stop) => Err(stop),
-    }
+    let line = line_of(sheet, number)?;
+    room_behind_pulse(line, room).ok_or(TOO_SHORT)
 }
 
 // Writes the lines of the pulses behind the names line.
@@ -117,18 +95,15 @@ fn write_lines<K: Total, S: Shelf<K>>(
     ensures answer { PartWritten K.kind (state_of S.slots S.outside sheet.now) named.at (row_lines K.kind (state_of S.slots S.outside sheet.now).count (state_of S.slots S.outside sheet.now).slots) out.old out.new (told (λ t. t.at) (λ e. e) result) }
     ensures stop { Stopped named.at (row_lines K.kind (state_of S.slots S.outside sheet.now).count (state_of S.slots S.outside sheet.now).slots) out.old out.new (told (λ t. t.at) (λ e. e) result) }
 {
-    let count = sheet.pulses();
     let mut text = named;
-    for done in 0..count {
-        match write_line(sheet, done + 1, text, out) {
-            Ok(more) => text = more,
-            Err(stop) => return Err(stop),
-        }
+    for done in 0..sheet.pulses() {
+        text = write_line(sheet, done + 1, text, out)?;
     }
     Ok(text)
 }
 
 // Writes the line of the pulse of a number.
+#[tactic(auto, using(crate::proofs::TextFacts::cut_none))]
 fn write_line<K: Total, S: Shelf<K>>(
     sheet: &Sheet<K, S>,
     number: usize,
@@ -139,33 +114,21 @@ fn write_line<K: Total, S: Shelf<K>>(
     ensures answer { PartWritten K.kind (state_of S.slots S.outside sheet.now) text.at (slot_line K.kind (state_of S.slots S.outside sheet.now).slots number) out.old out.new (told (λ t. t.at) (λ e. e) result) }
     ensures stop { Stopped text.at (slot_line K.kind (state_of S.slots S.outside sheet.now).slots number) out.old out.new (told (λ t. t.at) (λ e. e) result) }
 {
-    match sheet.pulse(number) {
-        Ok(pulse) => {
-            let width = pulse.stretch.width as usize;
-            let day = pulse.stretch.first as usize;
-            match write_pulse(
-                text,
-                number,
-                width,
-                day,
-                pulse.amount,
-                state_of(pulse.mark),
-                out,
-            ) {
-                Ok(more) => Ok(more),
-                Err(_) => Err(Stop::Unreachable),
-            }
-        }
-        Err(stop) => Err(stop),
-    }
+    let line = line_of(sheet, number)?;
+    write_pulse(text, line, out).map_err(|_| Stop::Unreachable)
 }
 
-// The word for a mark.
-fn state_of(mark: Mark) -> Word
-    ensures { result ≡ stated (is_out mark) }
+// What the line of the pulse of a number tells.
+fn line_of<K: Total, S: Shelf<K>>(sheet: &Sheet<K, S>, number: usize) -> Result<PulseLine<K>, Stop>
+    requires { (1 ≤ number) × (number ≤ (state_of S.slots S.outside sheet.now).count) }
+    ensures { LineGiven K.kind K.columns (state_of S.slots S.outside sheet.now) number result }
 {
-    match mark {
-        Mark::In => Word::In,
-        Mark::Out => Word::Out,
-    }
+    let pulse = sheet.pulse(number)?;
+    Ok(PulseLine {
+        number,
+        width: pulse.stretch.width as usize,
+        first: pulse.stretch.first as usize,
+        amount: pulse.amount,
+        state: Word::from(pulse.mark),
+    })
 }

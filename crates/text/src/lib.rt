@@ -7,6 +7,6 @@ pub use reading::{field, read_trace};
 pub use refusals::{FaultAtLine, FieldFault, FileFault, LineFault};
 pub use writer::{Ended, Lines, Naming, Short, Value, Word};
 pub use writing::{
-    room_behind_pulse, room_behind_pulse_names, texts_agree, write_pulse, write_pulse_names,
-    write_refusal, write_trace,
+    PulseLine, room_behind_pulse, room_behind_pulse_names, texts_agree, write_pulse,
+    write_pulse_names, write_refusal, write_trace,
 };

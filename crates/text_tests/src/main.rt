@@ -5,7 +5,7 @@
 use kinds::{Cents, CentsUnit, Pair, Pieces, PiecesUnit, Total, Whole};
 use std::io;
 use text::{
-    FileFault, Lines, Naming, Value, Word, field, read_figure, read_trace, write_pulse,
+    FileFault, Lines, Naming, PulseLine, Value, Word, field, read_figure, read_trace, write_pulse,
     write_pulse_names, write_refusal, write_trace,
 };
 
@@ -175,10 +175,24 @@ fn pulses(rt: &HostRuntime) -> io::Result<()> {
         return println!(rt; "too short");
     };
     let amount = mobile(-12, 3);
-    let Ok(lines) = write_pulse::<Mobile>(lines, 1, 2, 17, amount, Word::In, &mut out) else {
+    let pulse = PulseLine {
+        number: 1,
+        width: 2,
+        first: 17,
+        amount,
+        state: Word::In,
+    };
+    let Ok(lines) = write_pulse(lines, pulse, &mut out) else {
         return println!(rt; "too short");
     };
-    let Ok(lines) = write_pulse::<Mobile>(lines, 2, 1000, 1, amount, Word::Out, &mut out) else {
+    let pulse = PulseLine {
+        number: 2,
+        width: 1000,
+        first: 1,
+        amount,
+        state: Word::Out,
+    };
+    let Ok(lines) = write_pulse(lines, pulse, &mut out) else {
         return println!(rt; "too short");
     };
     let mut short = [b'.'; 4];

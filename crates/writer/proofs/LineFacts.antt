@@ -1,18 +1,14 @@
 -- Lemmas on lines that are written.
-use Rattle.std.proofs.Common.{◌≡◌, ℕ, suc, ◌+◌, ◌-◌, ◌<◌, ◌≤◌, cond, eqb, List, [], ◌∷◌, ◌++◌, length, get_or, drop, sym, refl, ap, ◌∙◌, arith}
+use Rattle.std.proofs.Common.{◌≡◌, ℕ, suc, false, true≢false, ◌+◌, ◌-◌, ◌<◌, ◌≤◌, cond, eqb, List, [], ◌∷◌, ◌++◌, length, get_or, drop, sym, refl, ap, ◌∙◌, arith}
 use Rattle.std.proofs.lemmas.List.{append_assoc, length-append, length-drop, drop_more, drop_all}
 use Rattle.std.proofs.lemmas.Bool.Decides.{nat_tests}
 use Rattle.writer.specs.Values.{behind, written, line}
 use Rattle.writer.specs.Written.{pasted}
 use Rattle.writer.proofs.WrittenFacts.{pasted_append, pasted_none}
 
-pub line_some : {X : Type 0} (bytes : X → List ℕ) (xs : List X) → (length xs ≡ 0 → ⊥) → line bytes xs ≡ written bytes xs
-line_some bytes [] h = absurd (h refl)
+pub line_some : {X : Type 0} (bytes : X → List ℕ) (xs : List X) → eqb (length xs) 0 ≡ false → line bytes xs ≡ written bytes xs
+line_some bytes [] h = absurd (true≢false h)
 line_some bytes (x ∷ xs) h = refl
-
-pub line_none : {X : Type 0} (bytes : X → List ℕ) (xs : List X) → length xs ≡ 0 → line bytes xs ≡ 10 ∷ []
-line_none bytes [] h = refl
-line_none bytes (x ∷ xs) h = absurd (omega arith)
 
 pub written_length : {X : Type 0} (bytes : X → List ℕ) (x : X) (xs : List X) → length (written bytes (x ∷ xs)) ≡ length (bytes x) + suc (length (written bytes xs))
 written_length bytes x xs = length-append (bytes x) (behind xs ∷ written bytes xs)

@@ -9,50 +9,41 @@ ghost use Rattle.writer.specs.Values.{line, shown};
 ghost use Rattle.writer.specs.Turns.{WriteTheNamesFirst, BeginAnotherText};
 ghost use Rattle.writer.specs.Written.{pasted, Leaves, Writes, Moves};
 
-use crate::digits::put_byte;
+use crate::bytes::{put_byte, put_bytes};
 use crate::value::{Shown, Value};
 use figures::Heading;
+use itoa::Buffer;
 use reading::{COMMA, LINE_FEED};
 use refusals::{FileFault, Refusal};
 
+// How many bytes an item takes, with the byte behind it.
+fn width_of<S: Shown>(item: &S) -> usize
+    ensures { result ≡ length (S.Shown.bytes item.now) + 1 }
+{
+    item.text(&mut Buffer::new()).len() + 1
+}
+
 // What is left of so many bytes behind a line of these items, or nothing where it does not fit.
-fn room_behind<S: Shown>(items: &[S], room: usize) -> Option<usize>
+pub fn room_behind<S: Shown>(items: &[S], room: usize) -> Option<usize>
     ensures { Leaves (length (line S.Shown.bytes items.now)) room result }
 {
-    if items.len() == 0 {
+    if items.is_empty() {
         return room.checked_sub(1);
     }
     let mut left = room;
     for item in items {
-        let width = item.width();
-        if left <= width {
-            return None;
-        }
-        left = left - width - 1;
+        left = left.checked_sub(width_of(item))?;
     }
     Some(left)
 }
 
-// The same behind a names line, and behind a line of values.
-pub fn room_behind_names(names: &[Heading], room: usize) -> Option<usize>
-    ensures { Leaves (length (line letters names.now)) room result }
-{
-    room_behind(names, room)
-}
-
-pub fn room_behind_values(values: &[Value], room: usize) -> Option<usize>
-    ensures { Leaves (length (line shown values.now)) room result }
-{
-    room_behind(values, room)
-}
-
 // Writes an item and the byte behind it.
-fn put_field<S: Shown>(item: S, last: bool, out: &mut [u8], at: usize) -> usize
-    requires { at + length (S.Shown.bytes item) + 1 ≤ length out.old }
-    ensures bytes { out.new ≡ pasted at (S.Shown.bytes item ++ ((if last then 10 else 44) ∷ [])) out.old }
-    ensures end { result ≡ at + length (S.Shown.bytes item) + 1 }
+fn put_field<S: Shown>(item: &S, last: bool, out: &mut [u8], at: usize) -> usize
+    requires { at + length (S.Shown.bytes item.now) + 1 ≤ length out.old }
+    ensures bytes { out.new ≡ pasted at (S.Shown.bytes item.now ++ ((if last then 10 else 44) ∷ [])) out.old }
+    ensures end { result ≡ at + length (S.Shown.bytes item.now) + 1 }
 {
-    let end = item.put(out, at);
+    let end = put_bytes(out, at, item.text(&mut Buffer::new()));
     put_byte(out, end, if last { LINE_FEED } else { COMMA });
     end + 1
 }
@@ -63,13 +54,13 @@ fn put_line<S: Shown>(items: &[S], out: &mut [u8], at: usize) -> usize
     ensures bytes { out.new ≡ pasted at (line S.Shown.bytes items.now) out.old }
     ensures end { result ≡ at + length (line S.Shown.bytes items.now) }
 {
-    if items.len() == 0 {
+    if items.is_empty() {
         put_byte(out, at, LINE_FEED);
         return at + 1;
     }
     let mut end = at;
     for (i, item) in items.iter().enumerate() {
-        end = put_field(*item, i + 1 == items.len(), out, end);
+        end = put_field(item, i + 1 == items.len(), out, end);
     }
     end
 }
@@ -78,13 +69,9 @@ fn put_line<S: Shown>(items: &[S], out: &mut [u8], at: usize) -> usize
 fn write_line<S: Shown>(items: &[S], out: &mut [u8], at: usize) -> Option<usize>
     ensures { Writes at (line S.Shown.bytes items.now) out.old out.new result }
 {
-    if out.len() < at {
-        return None;
-    }
-    match room_behind(items, out.len() - at) {
-        Some(_) => Some(put_line(items, out, at)),
-        None => None,
-    }
+    let room = out.len().checked_sub(at)?;
+    room_behind(items, room)?;
+    Some(put_line(items, out, at))
 }
 
 // A text whose names line is due.
@@ -139,10 +126,9 @@ impl Naming {
     pub fn names(self, names: &[Heading], out: &mut [u8]) -> Result<Lines, Short<Naming>>
         ensures { Moves self.at (line letters names.now) out.old out.new (told (λ s. s.at) (λ e. e.state.at) result) }
     {
-        match write_line(names, out, self.at) {
-            Some(at) => Ok(Lines { at }),
-            None => Err(Short { state: self }),
-        }
+        write_line(names, out, self.at)
+            .map(|at| Lines { at })
+            .ok_or(Short { state: self })
     }
 
     // No line of values stands before the names line: no text in this state has it written, so
@@ -161,10 +147,9 @@ impl Lines {
     pub fn line(self, values: &[Value], out: &mut [u8]) -> Result<Lines, Short<Lines>>
         ensures { Moves self.at (line shown values.now) out.old out.new (told (λ s. s.at) (λ e. e.state.at) result) }
     {
-        match write_line(values, out, self.at) {
-            Some(at) => Ok(Lines { at }),
-            None => Err(Short { state: self }),
-        }
+        write_line(values, out, self.at)
+            .map(|at| Lines { at })
+            .ok_or(Short { state: self })
     }
 
     // Ends the text.
@@ -180,8 +165,7 @@ impl Ended {
     pub fn length(&self) -> usize
         ensures { result ≡ self.now.at }
     {
-        let Ended { at } = self;
-        *at
+        self.at
     }
 
     // No line stands behind the end of a text: no text that has ended is empty, so nothing can call

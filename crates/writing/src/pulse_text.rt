@@ -1,58 +1,50 @@
 // Pulse texts and the text of a refusal.
-ghost use Rattle.std.specs.Prelude.{◌≡◌, ℕ, ◌+◌, ◌≤◌, ◌++◌, length, take};
+ghost use Rattle.std.specs.Prelude.{◌≡◌, ℕ, ◌+◌, ◌≤◌, ◌++◌, length};
 ghost use Rattle.figures.specs.Headings.{letters, first, second};
+ghost use Rattle.writing.specs.Fields.{fields};
 ghost use Rattle.writing.specs.Texts.{pulse_names, pulse_values, refusal_names, refusal_values, refusal_text};
 ghost use Rattle.reading.specs.Traces.{told};
 ghost use Rattle.writer.specs.Values.{line, shown};
 ghost use Rattle.writer.specs.Written.{pasted, Leaves, Writes, Moves};
 
+use crate::fields::Fields;
 use figures::{Heading, first_column, second_column};
 use kinds::Total;
 use refusals::Place;
-use writer::{Lines, Naming, Short, Value, Word, room_behind_names, room_behind_values};
+use writer::{Lines, Naming, Short, Value, Word, room_behind};
+
+// What a pulse text tells of a pulse in one line.
+#[derive(Clone, Copy)]
+pub struct PulseLine<K> {
+    pub number: usize,
+    pub width: usize,
+    pub first: usize,
+    pub amount: K,
+    pub state: Word,
+}
 
 // The names of a pulse text: those of the kind's columns stand between `first` and `state`.
-#[derive(Clone, Copy)]
-struct PulseNames {
-    names: [Heading; 6],
-    count: usize,
-}
-
-// The values of a line of a pulse text.
-#[derive(Clone, Copy)]
-struct PulseValues {
-    values: [Value; 6],
-    count: usize,
-}
-
-fn pulse_names<K: Total>() -> PulseNames
-    ensures count { result.count ≤ 6 }
-    ensures names { take result.count result.names ≡ pulse_names K.Total.kind }
+#[tactic(auto, unfolding(crate::specs::Texts::pulse_names))]
+fn pulse_names<K: Total>() -> Fields<Heading, 5, 6>
+    ensures { fields result ≡ pulse_names K.Total.kind }
 {
     let column = first_column::<K>();
     match second_column::<K>() {
-        None => PulseNames {
-            names: [
-                Heading::Pulse,
-                Heading::Width,
-                Heading::First,
-                column,
-                Heading::State,
-                Heading::State,
-            ],
-            count: 5,
-        },
-        Some(second) => PulseNames {
-            names: [
-                Heading::Pulse,
-                Heading::Width,
-                Heading::First,
-                column,
-                second,
-                Heading::State,
-            ],
-            count: 6,
-        },
+        None => Fields::OneColumn([
+            Heading::Pulse,
+            Heading::Width,
+            Heading::First,
+            column,
+            Heading::State,
+        ]),
+        Some(second) => Fields::TwoColumns([
+            Heading::Pulse,
+            Heading::Width,
+            Heading::First,
+            column,
+            second,
+            Heading::State,
+        ]),
     }
 }
 
@@ -60,53 +52,32 @@ fn pulse_names<K: Total>() -> PulseNames
 pub(crate) fn first_of<K: Total>(total: K) -> i64
     ensures { result ≡ first K.Total.kind.arity (K.Total.columns total) }
 {
-    match total.column(1) {
-        Some(number) => number,
-        None => 0,
-    }
+    total.column(1).unwrap_or(0)
 }
 
 // The second column of a total, if it has one.
+#[tactic(auto, using(figures::proofs::HeadingFacts::column_second))]
 pub(crate) fn second_of<K: Total>(total: K) -> Option<i64>
     ensures { result ≡ second K.Total.kind.arity (K.Total.columns total) }
 {
     total.column(2)
 }
 
-fn pulse_values<K: Total>(
-    pulse: usize,
-    width: usize,
-    day: usize,
-    amount: K,
-    state: Word,
-) -> PulseValues
-    ensures count { result.count ≤ 6 }
-    ensures values { take result.count result.values ≡ pulse_values K.Total.kind pulse width day (K.Total.columns amount) state }
+// The values of the line of a pulse.
+#[tactic(auto, unfolding(crate::specs::Texts::pulse_values))]
+fn pulse_values<K: Total>(pulse: PulseLine<K>) -> Fields<Value, 5, 6>
+    ensures { fields result ≡ pulse_values K.Total.kind pulse.number pulse.width pulse.first (K.Total.columns pulse.amount) pulse.state }
 {
-    let column = first_of(amount);
-    match second_of(amount) {
-        None => PulseValues {
-            values: [
-                Value::Count(pulse),
-                Value::Count(width),
-                Value::Count(day),
-                Value::Amount(column),
-                Value::Word(state),
-                Value::Word(state),
-            ],
-            count: 5,
-        },
-        Some(second) => PulseValues {
-            values: [
-                Value::Count(pulse),
-                Value::Count(width),
-                Value::Count(day),
-                Value::Amount(column),
-                Value::Amount(second),
-                Value::Word(state),
-            ],
-            count: 6,
-        },
+    let number = Value::Count(pulse.number);
+    let width = Value::Count(pulse.width);
+    let day = Value::Count(pulse.first);
+    let column = Value::Amount(first_of(pulse.amount));
+    let state = Value::Word(pulse.state);
+    match second_of(pulse.amount) {
+        None => Fields::OneColumn([number, width, day, column, state]),
+        Some(second) => {
+            Fields::TwoColumns([number, width, day, column, Value::Amount(second), state])
+        }
     }
 }
 
@@ -114,47 +85,32 @@ fn pulse_values<K: Total>(
 pub fn write_pulse_names<K: Total>(text: Naming, out: &mut [u8]) -> Result<Lines, Short<Naming>>
     ensures { Moves text.at (line letters (pulse_names K.Total.kind)) out.old out.new (told (λ s. s.at) (λ e. e.state.at) result) }
 {
-    let line = pulse_names::<K>();
-    text.names(&line.names[0..line.count], out)
+    text.names(pulse_names::<K>().as_slice(), out)
 }
 
 // Writes the line of one pulse: its number, width, first day, amount and state.
 pub fn write_pulse<K: Total>(
     text: Lines,
-    pulse: usize,
-    width: usize,
-    day: usize,
-    amount: K,
-    state: Word,
+    pulse: PulseLine<K>,
     out: &mut [u8],
 ) -> Result<Lines, Short<Lines>>
-    ensures { Moves text.at (line shown (pulse_values K.Total.kind pulse width day (K.Total.columns amount) state)) out.old out.new (told (λ s. s.at) (λ e. e.state.at) result) }
+    ensures { Moves text.at (line shown (pulse_values K.Total.kind pulse.number pulse.width pulse.first (K.Total.columns pulse.amount) pulse.state)) out.old out.new (told (λ s. s.at) (λ e. e.state.at) result) }
 {
-    let line = pulse_values(pulse, width, day, amount, state);
-    text.line(&line.values[0..line.count], out)
+    text.line(pulse_values(pulse).as_slice(), out)
 }
 
 // What is left of so many bytes behind the names line of a pulse text, or nothing where it does not fit.
 pub fn room_behind_pulse_names<K: Total>(room: usize) -> Option<usize>
     ensures { Leaves (length (line letters (pulse_names K.Total.kind))) room result }
 {
-    let line = pulse_names::<K>();
-    room_behind_names(&line.names[0..line.count], room)
+    room_behind(pulse_names::<K>().as_slice(), room)
 }
 
 // The same behind the line of one pulse.
-pub fn room_behind_pulse<K: Total>(
-    pulse: usize,
-    width: usize,
-    day: usize,
-    amount: K,
-    state: Word,
-    room: usize,
-) -> Option<usize>
-    ensures { Leaves (length (line shown (pulse_values K.Total.kind pulse width day (K.Total.columns amount) state))) room result }
+pub fn room_behind_pulse<K: Total>(pulse: PulseLine<K>, room: usize) -> Option<usize>
+    ensures { Leaves (length (line shown (pulse_values K.Total.kind pulse.number pulse.width pulse.first (K.Total.columns pulse.amount) pulse.state))) room result }
 {
-    let line = pulse_values(pulse, width, day, amount, state);
-    room_behind_values(&line.values[0..line.count], room)
+    room_behind(pulse_values(pulse).as_slice(), room)
 }
 
 // Writes a names line and one line of values, and answers their bytes, or nothing where the buffer
@@ -162,30 +118,28 @@ pub fn room_behind_pulse<K: Total>(
 fn write_two(names: &[Heading], values: &[Value], out: &mut [u8]) -> Option<usize>
     ensures { Writes 0 (line letters names.now ++ line shown values.now) out.old out.new result }
 {
-    let left = room_behind_names(names, out.len())?;
-    room_behind_values(values, left)?;
-    match Naming::begin().names(names, out) {
-        Ok(named) => one_line(named, values, out),
-        Err(_) => None,
-    }
+    let left = room_behind(names, out.len())?;
+    room_behind(values, left)?;
+    let named = Naming::begin().names(names, out).ok()?;
+    one_line(named, values, out)
 }
 
 // Writes one line of values and ends the text, and answers its bytes.
 fn one_line(named: Lines, values: &[Value], out: &mut [u8]) -> Option<usize>
     ensures { Writes named.at (line shown values.now) out.old out.new result }
 {
-    match named.line(values, out) {
-        Ok(text) => Some(text.end().length()),
-        Err(_) => None,
-    }
+    let text = named.line(values, out).ok()?;
+    Some(text.end().length())
 }
 
+#[tactic(auto, unfolding(crate::specs::Texts::refusal_names))]
 fn refusal_names() -> [Heading; 3]
     ensures { result ≡ refusal_names }
 {
     [Heading::Refusal, Heading::Line, Heading::Byte]
 }
 
+#[tactic(auto, unfolding(crate::specs::Texts::refusal_values))]
 fn refusal_values(number: u8, place: Place) -> [Value; 3]
     ensures { result ≡ refusal_values number place }
 {

@@ -1,64 +1,43 @@
 // Writing a record as a trace text.
-ghost use Rattle.std.specs.Prelude.{◌≡◌, ℕ, ◌+◌, ◌^◌, ◌<◌, ◌≤◌, false, List, ◌++◌, map, length, take, nat_lt};
+ghost use Rattle.std.specs.Prelude.{◌≡◌, ℕ, ◌+◌, ◌^◌, ◌<◌, ◌≤◌, false, List, ◌++◌, map, length, nat_lt};
 ghost use Rattle.figures.specs.Headings.{letters, twins};
+ghost use Rattle.writing.specs.Fields.{fields};
 ghost use Rattle.writing.specs.Laws.{ReadsBack, TextsAgree};
 ghost use Rattle.writing.specs.Texts.{trace_headings, trace_values, trace_lines, trace_text, not_entered, unless_day, in_room, write_record, WritesRecord};
 ghost use Rattle.writer.specs.Values.{line, shown};
 ghost use Rattle.writer.specs.Written.{pasted, Leaves, Writes};
 
+use crate::fields::Fields;
 use crate::pulse_text::{first_of, second_of};
 use figures::{Heading, first_column, second_column, twin_names};
 use kinds::Total;
 use refusals::Refusal;
-use writer::{Lines, Naming, Value, room_behind_names, room_behind_values};
+use writer::{Lines, Naming, Value, room_behind};
 
 const MOST_DAYS: usize = 1000;
 
 // The names of a trace text: `day` and those of the kind's columns.
-#[derive(Clone, Copy)]
-struct TraceNames {
-    names: [Heading; 3],
-    count: usize,
-}
-
-// The values of the line of a day.
-#[derive(Clone, Copy)]
-struct TraceValues {
-    values: [Value; 3],
-    count: usize,
-}
-
-fn trace_names<K: Total>() -> TraceNames
-    ensures count { result.count ≤ 3 }
-    ensures names { take result.count result.names ≡ trace_headings K.Total.kind }
+#[tactic(auto, unfolding(crate::specs::Texts::trace_headings))]
+fn trace_names<K: Total>() -> Fields<Heading, 2, 3>
+    ensures { fields result ≡ trace_headings K.Total.kind }
 {
     let column = first_column::<K>();
     match second_column::<K>() {
-        None => TraceNames {
-            names: [Heading::Day, column, Heading::Day],
-            count: 2,
-        },
-        Some(second) => TraceNames {
-            names: [Heading::Day, column, second],
-            count: 3,
-        },
+        None => Fields::OneColumn([Heading::Day, column]),
+        Some(second) => Fields::TwoColumns([Heading::Day, column, second]),
     }
 }
 
-fn trace_values<K: Total>(day: usize, total: K) -> TraceValues
-    ensures count { result.count ≤ 3 }
-    ensures values { take result.count result.values ≡ trace_values K.Total.kind day (K.Total.columns total) }
+// The values of the line of a day.
+#[tactic(auto, unfolding(crate::specs::Texts::trace_values))]
+fn trace_values<K: Total>(day: usize, total: K) -> Fields<Value, 2, 3>
+    ensures { fields result ≡ trace_values K.Total.kind day (K.Total.columns total) }
 {
+    let day = Value::Count(day);
     let column = Value::Amount(first_of(total));
     match second_of(total) {
-        None => TraceValues {
-            values: [Value::Count(day), column, Value::Count(day)],
-            count: 2,
-        },
-        Some(second) => TraceValues {
-            values: [Value::Count(day), column, Value::Amount(second)],
-            count: 3,
-        },
+        None => Fields::OneColumn([day, column]),
+        Some(second) => Fields::TwoColumns([day, column, Value::Amount(second)]),
     }
 }
 
@@ -66,8 +45,7 @@ fn trace_values<K: Total>(day: usize, total: K) -> TraceValues
 fn room_behind_day<K: Total>(day: usize, total: K, room: usize) -> Option<usize>
     ensures { Leaves (length (line shown (trace_values K.Total.kind day (K.Total.columns total)))) room result }
 {
-    let line = trace_values(day, total);
-    room_behind_values(&line.values[0..line.count], room)
+    room_behind(trace_values(day, total).as_slice(), room)
 }
 
 // The same behind the lines of all days.
@@ -77,10 +55,7 @@ fn room_behind_days<K: Total>(totals: &[K], room: usize) -> Option<usize>
 {
     let mut left = room;
     for (i, total) in totals.iter().enumerate() {
-        match room_behind_day(i + 1, *total, left) {
-            Some(rest) => left = rest,
-            None => return None,
-        }
+        left = room_behind_day(i + 1, *total, left)?;
     }
     Some(left)
 }
@@ -91,11 +66,8 @@ fn put_day<K: Total>(day: usize, total: K, text: Lines, out: &mut [u8]) -> Lines
     ensures bytes { out.new ≡ pasted text.at (line shown (trace_values K.Total.kind day (K.Total.columns total))) out.old }
     ensures end { result.at ≡ text.at + length (line shown (trace_values K.Total.kind day (K.Total.columns total))) }
 {
-    let line = trace_values(day, total);
-    match text.line(&line.values[0..line.count], out) {
-        Ok(more) => more,
-        Err(short) => short.state,
-    }
+    text.line(trace_values(day, total).as_slice(), out)
+        .unwrap_or_else(|short| short.state)
 }
 
 // The same with the lines of all days.
@@ -132,13 +104,12 @@ fn put_record<K: Total>(totals: &[K], out: &mut [u8]) -> Option<usize>
     requires { length totals.now ≤ 1000 }
     ensures { Writes 0 (trace_text K.Total.kind (map K.Total.columns totals.now)) out.old out.new result }
 {
-    let line = trace_names::<K>();
-    let left = room_behind_names(&line.names[0..line.count], out.len())?;
+    let fields = trace_names::<K>();
+    let names = fields.as_slice();
+    let left = room_behind(names, out.len())?;
     room_behind_days(totals, left)?;
-    match Naming::begin().names(&line.names[0..line.count], out) {
-        Ok(named) => Some(put_days(totals, named, out).end().length()),
-        Err(_) => None,
-    }
+    let named = Naming::begin().names(names, out).ok()?;
+    Some(put_days(totals, named, out).end().length())
 }
 
 fn too_many_days<K: Total>(totals: &[K]) -> bool
@@ -155,10 +126,7 @@ fn write_days<K: Total>(totals: &[K], out: &mut [u8]) -> Result<usize, Refusal>
 {
     match first_not_entered(totals) {
         Some(day) => Err(Refusal::MayNotEnter { day }),
-        None => match put_record(totals, out) {
-            Some(bytes) => Ok(bytes),
-            None => Err(Refusal::OutputTooShort),
-        },
+        None => put_record(totals, out).ok_or(Refusal::OutputTooShort),
     }
 }
 

@@ -1,11 +1,6 @@
-use Rattle.std.proofs.Common.{◌+◌, length, sym, ap, ◌∙◌, arith}
-use Rattle.writing.proofs.RecordFacts.{length_of_day, no_lines, pasted_day, pasted_days}
+use Rattle.std.proofs.Common.{◌+◌, ◌∙◌, arith}
+use Rattle.writing.proofs.RecordFacts.{length_of_day, pasted_day}
 use Rattle.writing.proofs.record_text.put_days.Goals as goal
-
-pub put_day-text-requires : goal.put_day-text-requires
-put_day-text-requires g c =
-    let more = length_of_day g.K.Total.kind g.K.Total.columns (c.loop-i.i + 1) c.args.totals.now c.loop-i.i c.index-totals-i.result (omega arith) c.index-totals-i.is in
-    omega arith
 
 pub loop-i-preserved : goal.loop-i-preserved
 loop-i-preserved g c =
@@ -14,11 +9,3 @@ loop-i-preserved g c =
           ∙ c.loop-i.invariant.0,
       omega arith,
     )
-
-pub returns : goal.returns
-returns g c =
-    let none = ap length (no_lines g.K.Total.kind g.K.Total.columns (c.loop-i.i + 1) c.args.totals.now c.loop-i.i (omega arith)) in
-    record {
-      bytes = sym (pasted_days g.K.Total.kind g.K.Total.columns (c.loop-i.i + 1) c.args.totals.now c.loop-i.i c.loop-i.text.at c.loop-i.out (omega arith)) ∙ c.loop-i.invariant.0;
-      end = omega arith;
-    }

@@ -1,6 +1,6 @@
 use Rattle.std.proofs.Common.{refl, arith}
 use Rattle.writer.proofs.WrittenFacts.{pasted_part}
-use Rattle.writer.proofs.digits.put_bytes.Goals as goal
+use Rattle.writer.proofs.bytes.put_bytes.Goals as goal
 
 pub returns : goal.returns
 returns c =
