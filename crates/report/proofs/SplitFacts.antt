@@ -1,5 +1,5 @@
 -- From a record that was read to the text of its pulses.
-use Rattle.std.proofs.Common.{◌≡◌, ℕ, ◌≤◌, false, List, [], ◌∷◌, length, Ok, Err, Result, sym, ap, ◌∙◌, subst, inl, arith}
+use Rattle.std.proofs.Common.{◌≡◌, ℕ, ◌≤◌, false, List, [], ◌∷◌, length, Ok, Err, Result, sym, refl, ap, ◌∙◌, subst, inl, arith}
 use Rattle.kinds.specs.Kinds.{Kind}
 use Rattle.refusals.specs.declared.refusal.Refusal.{Refusal}
 use Rattle.transform.specs.Windows.{Record}
@@ -7,7 +7,7 @@ use Rattle.transform.specs.Pulses.{pulses}
 use Rattle.sheets.specs.declared.sheet.Stop.{Stop}
 use Rattle.sheets.specs.declared.sheet.Stop.TheVariants.{Refused, Unreachable}
 use Rattle.splitting.specs.Records.{Accepted}
-use Rattle.sheets.specs.Takes.{State, Take}
+use Rattle.sheets.specs.Takes.{State}
 use Rattle.sheets.specs.Calls.{taking}
 use Rattle.sheets.specs.History.{Calls, Shows}
 use Rattle.refusals.specs.declared.fault.FileFault.{FileFault}
@@ -17,7 +17,7 @@ use Rattle.refusals.specs.declared.fault.NotWritten.{NotWritten}
 use Rattle.refusals.specs.Faults.{in_taking, in_writing}
 use Rattle.reading.specs.Traces.{read_text}
 use Rattle.report.specs.PulseTexts.{pulse_text, sheet_text, TextWritten}
-use Rattle.report.specs.Reports.{told, report_as, Reported, refusal_in, RecordTaken, TextDue, OfWriting, PulsesWritten, OfReport}
+use Rattle.report.specs.Reports.{told, report_as, Reported, refusal_in, RecordTaken, TextDue, OfWriting, PulsesWritten}
 use Rattle.report.proofs.ReadFacts.{Fair, Fit, text_fair}
 use Rattle.report.proofs.ShortFacts.{only_14}
 use Rattle.report.proofs.TakeFacts.{accepted, taken_text}
@@ -40,13 +40,13 @@ written_err (Ok m) f e = cc
 written_err (Err r) f e = let h : record { refusal = r } ≡ f = cc in ap (λ g. Err g.refusal) h
 
 -- a call that was stopped
-pub take_stop : {S W : Type 0} (K : Kind) (xs : Record K) (entries : ℕ) (before after : State) (s t : S) (w v : W) (stop : Stop) → Take K xs entries before after s t w v (Err stop) → RecordTaken K xs entries before after (Err (refusal_in stop))
-take_stop K xs entries before after s t w v (Refused r) T = T.0.ground
-take_stop K xs entries before after s t w v Unreachable T = absurd T
-
-pub write_stop : (K : Kind) (s : State) (before after : List ℕ) (stop : Stop) → ((h : Calls K) × Shows K h s) → TextWritten K s before after (Err stop) → Reported (sheet_text K s) before after (Err (refusal_in stop))
+write_stop : (K : Kind) (s : State) (before after : List ℕ) (stop : Stop) → ((h : Calls K) × Shows K h s) → TextWritten K s before after (Err stop) → Reported (sheet_text K s) before after (Err (refusal_in stop))
 write_stop K s before after (Refused r) H T = T
 write_stop K s before after Unreachable (h, S) T = absurd (T h S)
+
+pub write_told : (K : Kind) (s : State) (before after : List ℕ) (r : Result ℕ Stop) (q : Result ℕ Refusal) → ((h : Calls K) × Shows K h s) → TextWritten K s before after r → ((n : ℕ) → r ≡ Ok n → q ≡ Ok n) → ((stop : Stop) → r ≡ Err stop → q ≡ Err (refusal_in stop)) → Reported (sheet_text K s) before after q
+write_told K s before after (Ok n) q H T o e = subst (Reported (sheet_text K s) before after) (sym (o n refl)) T
+write_told K s before after (Err stop) q H T o e = subst (Reported (sheet_text K s) before after) (sym (e stop refl)) (write_stop K s before after stop H T)
 
 -- a record that is accepted is taken, and the history goes on
 module _ (K : Kind) (xs : Record K) (entries : ℕ) (before after : State) (x : Result ℕ Refusal) (T : RecordTaken K xs entries before after x) where
@@ -92,7 +92,3 @@ module _ (K : Kind) (text : List ℕ) (room : ℕ) (xs : Record K) (full : room 
   pub pulses_written : (out end : List ℕ) (r : Result ℕ FileFault) → TextDue (pulse_text K (λ p. false) (pulses K xs)) out end r → PulsesWritten K text out end r
   pulses_written out end (Ok n) w = subst (λ bs. TextDue bs out end (Ok n)) text_is w
   pulses_written out end (Err fault) w = inl (subst (λ bs. TextDue bs out end (Err fault)) text_is w)
-
-pub fault_told : (r : Result ℕ FileFault) → OfWriting r → OfReport r
-fault_told (Ok n) w = tt
-fault_told (Err fault) w = inl w
