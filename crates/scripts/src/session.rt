@@ -1,6 +1,6 @@
 // One script on one sheet, of any kind and over any shelf.
 use crate::answers::{Answer, Columns, Numbered, Stopped, Totals};
-use crate::script::{Command, NotACall, Script};
+use crate::script::{Command, Script};
 use histories::sheet_after;
 use kinds::Total;
 use reading::read_trace;
@@ -35,37 +35,27 @@ pub fn play<K: Total, S: Shelf<K> + Drop>(
 ) -> anyhow::Result<Ending> {
     let mut sheet = opened(shelf);
     for command in script {
+        let Ok(command) = command else {
+            println!(rt; "not a call")?;
+            continue;
+        };
         match command {
-            Ok(Command::Memory) => return Ok(Ending::MemoryAsked),
-            Ok(command) => answer(rt, &mut sheet, command)?,
-            Err(NotACall) => println!(rt; "not a call")?,
+            Command::Take(entries, text) => take(rt, &mut sheet, entries, text)?,
+            Command::Remove(low, high) => println!(rt; "{}", Answer(sheet.remove(low, high)))?,
+            Command::Restore(low, high) => println!(rt; "{}", Answer(sheet.restore(low, high)))?,
+            Command::RemoveOne(number) => println!(rt; "{}", Answer(sheet.remove_one(number)))?,
+            Command::RestoreOne(number) => println!(rt; "{}", Answer(sheet.restore_one(number)))?,
+            Command::Days => println!(rt; "{}", sheet.days())?,
+            Command::Pulses => println!(rt; "{}", sheet.pulses())?,
+            Command::Pulse(number) => pulse(rt, &sheet, number)?,
+            Command::Standing(day) => println!(rt; "{}", Answer(sheet.standing(day).map(Columns)))?,
+            Command::Trace(room) => trace(rt, &sheet, room)?,
+            Command::Swing => println!(rt; "{}", Answer(sheet.swing().map(Columns)))?,
+            Command::List => list(rt, &sheet)?,
+            Command::Memory => return Ok(Ending::MemoryAsked),
         }
     }
     Ok(Ending::AllRead)
-}
-
-// Makes a call, or answers a question.
-fn answer<K: Total, S: Shelf<K>>(
-    rt: &HostRuntime,
-    sheet: &mut Sheet<K, S>,
-    command: Command<'_>,
-) -> anyhow::Result<()> {
-    match command {
-        Command::Take(entries, text) => take(rt, sheet, entries, text)?,
-        Command::Remove(low, high) => println!(rt; "{}", Answer(sheet.remove(low, high)))?,
-        Command::Restore(low, high) => println!(rt; "{}", Answer(sheet.restore(low, high)))?,
-        Command::RemoveOne(number) => println!(rt; "{}", Answer(sheet.remove_one(number)))?,
-        Command::RestoreOne(number) => println!(rt; "{}", Answer(sheet.restore_one(number)))?,
-        Command::Days => println!(rt; "{}", sheet.days())?,
-        Command::Pulses => println!(rt; "{}", sheet.pulses())?,
-        Command::Pulse(number) => pulse(rt, sheet, number)?,
-        Command::Standing(day) => println!(rt; "{}", Answer(sheet.standing(day).map(Columns)))?,
-        Command::Trace(room) => trace(rt, sheet, room)?,
-        Command::Swing => println!(rt; "{}", Answer(sheet.swing().map(Columns)))?,
-        Command::List => list(rt, sheet)?,
-        Command::Memory => (),
-    }
-    Ok(())
 }
 
 // Reads a text, each line of it ended, and takes its record.
