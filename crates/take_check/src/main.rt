@@ -21,41 +21,24 @@ fn taken(heap: Global, record: &[i64]) -> Result<Option<Vec<Pulse>>, AllocError>
         mark: 2,
         amount: Cents::new(0),
     };
-    let mut totals = Vec::new(heap);
-    let mut rows = Vec::new(heap);
-    let mut work = vec![in heap; WorkEntry::new(), WorkEntry::new()]?;
-    for value in record {
-        totals.push(Cents::new(*value))?;
-        rows.push(blank)?;
-        work.push(WorkEntry::new())?;
-    }
-    let mut sheet: Sheet<Cents, RowShelf<Cents>> = Sheet::new(RowShelf::over(rows.as_mut_slice()));
-    let count = match sheet.take(totals.as_slice(), work.as_mut_slice()) {
-        Ok(count) => count,
-        Err(_) => return Ok(None),
+    let totals: Vec<Cents> = record.iter().map(|value| Cents::new(*value)).collect(heap)?;
+    let mut rows = vec![in heap; blank; record.len()]?;
+    let mut work = vec![in heap; WorkEntry::new(); record.len() + 2]?;
+    let mut sheet: Sheet<Cents, RowShelf<Cents>> = Sheet::new(RowShelf::over(&mut rows));
+    let Ok(count) = sheet.take(&totals, &mut work) else {
+        return Ok(None);
     };
     drop(sheet);
-    let mut list = Vec::new(heap);
-    for row in rows.iter().take(count) {
-        list.push(Pulse {
-            first: row.first as usize,
-            width: row.width as usize,
-            amount: row.amount.column(1).unwrap_or(0),
-        })?;
-    }
+    let list: Vec<Pulse> = rows.iter().take(count).map(pulse_of).collect(heap)?;
     Ok(Some(list))
 }
 
-fn agree(a: &[Pulse], b: &[Pulse]) -> bool {
-    if a.len() != b.len() {
-        return false;
+fn pulse_of(row: &Row<Cents>) -> Pulse {
+    Pulse {
+        first: usize::from(row.first),
+        width: usize::from(row.width),
+        amount: row.amount.column(1).unwrap_or(0),
     }
-    for (p, q) in a.iter().zip(b) {
-        if *p != *q {
-            return false;
-        }
-    }
-    true
 }
 
 fn run(rt: &(impl Print + AllocGlobal)) -> anyhow::Result<()> {
@@ -64,24 +47,23 @@ fn run(rt: &(impl Print + AllocGlobal)) -> anyhow::Result<()> {
     for number in 0..RECORDS {
         let record = record(heap, number)?;
         let days = record.len();
-        let expected = pulses(heap, record.as_slice())?;
+        let expected = pulses(heap, &record)?;
         let count = expected.len();
-        match taken(heap, record.as_slice())? {
-            Some(list) => {
-                if agree(list.as_slice(), expected.as_slice()) {
-                    rt.println(format_args!("record {number}: {days} days, {count} pulses"))?;
-                } else {
-                    wrong = wrong.saturating_add(1);
-                    rt.println(format_args!("record {number}: take differs"))?;
-                }
+        match taken(heap, &record)? {
+            Some(list) if list == expected => {
+                println!(rt; "record {number}: {days} days, {count} pulses")?;
+            }
+            Some(_) => {
+                wrong = wrong.saturating_add(1);
+                println!(rt; "record {number}: take differs")?;
             }
             None => {
                 wrong = wrong.saturating_add(1);
-                rt.println(format_args!("record {number}: take gives no answer"))?;
+                println!(rt; "record {number}: take gives no answer")?;
             }
         }
     }
-    rt.println(format_args!("{wrong} of {RECORDS} differ"))?;
+    println!(rt; "{wrong} of {RECORDS} differ")?;
     Ok(())
 }
 

@@ -1,5 +1,6 @@
 // The transform as it is defined: windows of n + 1 days, zero outside the record.
 use std::alloc::{AllocError, Global};
+use std::iter;
 
 #[derive(Clone, Copy, PartialEq, Eq)]
 pub struct Pulse {
@@ -8,39 +9,48 @@ pub struct Pulse {
     pub amount: i64,
 }
 
-// The lowest or the highest of each window of n + 1 values.
-fn of_windows(
+fn lowest(window: &[i64]) -> i64 {
+    window.iter().copied().min().unwrap_or(0)
+}
+
+fn highest(window: &[i64]) -> i64 {
+    window.iter().copied().max().unwrap_or(0)
+}
+
+// What is picked of each window of n + 1 values.
+fn of_windows<F: Fn(&[i64]) -> i64>(
     heap: Global,
     values: &[i64],
     n: usize,
-    highest: bool,
-) -> Result<Vec<i64>, AllocError> {
+    pick: F,
+) -> Result<Vec<i64>, AllocError>
+    requires { F.IsAlwaysCallable pick }
+{
     let mut out = Vec::new(heap);
     for window in values.windows(n.saturating_add(1)) {
-        let found = if highest {
-            window.iter().copied().max()
-        } else {
-            window.iter().copied().min()
-        };
-        out.push(found.unwrap_or(0))?;
+        out.push(pick(window))?;
     }
     Ok(out)
 }
 
-// L of width n, or U where `up`: the windows reach n days beyond the record on either side.
-fn smoothed(heap: Global, record: &[i64], n: usize, up: bool) -> Result<Vec<i64>, AllocError> {
-    let mut padded = Vec::new(heap);
-    for _ in 0..n {
-        padded.push(0)?;
-    }
-    for value in record {
-        padded.push(*value)?;
-    }
-    for _ in 0..n {
-        padded.push(0)?;
-    }
-    let inner = of_windows(heap, padded.as_slice(), n, up)?;
-    of_windows(heap, inner.as_slice(), n, !up)
+// The record with n days of zero on either side.
+fn padded(heap: Global, record: &[i64], n: usize) -> Result<Vec<i64>, AllocError> {
+    let mut days = vec![in heap; 0; n]?;
+    days.extend_from_slice(record)?;
+    days.extend(iter::repeat_n(0, n))?;
+    Ok(days)
+}
+
+// L of width n.
+fn lowered(heap: Global, record: &[i64], n: usize) -> Result<Vec<i64>, AllocError> {
+    let lows = of_windows(heap, &padded(heap, record, n)?, n, lowest)?;
+    of_windows(heap, &lows, n, highest)
+}
+
+// U of width n.
+fn raised(heap: Global, record: &[i64], n: usize) -> Result<Vec<i64>, AllocError> {
+    let highs = of_windows(heap, &padded(heap, record, n)?, n, highest)?;
+    of_windows(heap, &highs, n, lowest)
 }
 
 // The longest unbroken stretches of changed days, added to the list.
@@ -73,10 +83,10 @@ pub fn pulses(heap: Global, record: &[i64]) -> Result<Vec<Pulse>, AllocError> {
     let mut list = Vec::new(heap);
     let mut smooth = record.to_vec(heap)?;
     for n in 1..=record.len() {
-        let lowered = smoothed(heap, smooth.as_slice(), n, false)?;
-        add_changes(&mut list, smooth.as_slice(), lowered.as_slice())?;
-        let raised = smoothed(heap, lowered.as_slice(), n, true)?;
-        add_changes(&mut list, lowered.as_slice(), raised.as_slice())?;
+        let lowered = lowered(heap, &smooth, n)?;
+        add_changes(&mut list, &smooth, &lowered)?;
+        let raised = raised(heap, &lowered, n)?;
+        add_changes(&mut list, &lowered, &raised)?;
         smooth = raised;
     }
     Ok(list)
