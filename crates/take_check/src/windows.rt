@@ -55,25 +55,24 @@ fn raised(heap: Global, record: &[i64], n: usize) -> Result<Vec<i64>, AllocError
 
 // The longest unbroken stretches of changed days, added to the list.
 fn add_changes(list: &mut Vec<Pulse>, before: &[i64], after: &[i64]) -> Result<(), AllocError> {
-    let mut open = Pulse {
-        first: 0,
-        width: 0,
-        amount: 0,
-    };
+    let mut open: Option<Pulse> = None;
     for (i, (b, a)) in before.iter().zip(after).enumerate() {
-        if *b != *a {
-            if open.width == 0 {
-                open.first = i.saturating_add(1);
-                open.amount = b.saturating_sub(*a);
+        if *b == *a {
+            if let Some(pulse) = open.take() {
+                list.push(pulse)?;
             }
-            open.width = open.width.saturating_add(1);
-        } else if open.width > 0 {
-            list.push(open)?;
-            open.width = 0;
+        } else if let Some(pulse) = &mut open {
+            pulse.width = pulse.width.saturating_add(1);
+        } else {
+            open = Some(Pulse {
+                first: i.saturating_add(1),
+                width: 1,
+                amount: b.saturating_sub(*a),
+            });
         }
     }
-    if open.width > 0 {
-        list.push(open)?;
+    if let Some(pulse) = open {
+        list.push(pulse)?;
     }
     Ok(())
 }
