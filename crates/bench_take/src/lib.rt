@@ -13,7 +13,7 @@ const MOST_DAYS: usize = 1000;
 // The most totals of one call, all its records together.
 const MOST_TOTALS: usize = 16_000;
 
-// The answer where no number of pulses can be given.
+// The answer where no number of pulses can be given. Stays a number: the C interface has no Option.
 const NONE: usize = 1_000_000;
 
 // Takes each record of a lot, records of `days` days that stand one after the other, as often as
@@ -28,30 +28,14 @@ pub extern "C" fn bench_take(lot: &[i64], days: usize, rounds: usize, listed: &m
     fill(&mut totals, lot);
     let mut work = [WorkEntry::new(); 1002];
     let mut rows = [blank(); MOST_DAYS];
-    taken(
-        &totals[0..lot.len()],
-        days,
-        rounds,
-        &mut work[0..days + 2],
-        &mut rows[0..days],
-        listed,
-    )
-}
-
-fn taken(
-    lot: &[Cents],
-    days: usize,
-    rounds: usize,
-    work: &mut [WorkEntry<Cents>],
-    rows: &mut [Row<Cents>],
-    listed: &mut [i64],
-) -> usize {
-    match take_lot(lot, days, rounds, work, rows) {
-        Some(count) => {
-            list(rows, count, listed);
+    let work = &mut work[..days + 2];
+    let rows = &mut rows[..days];
+    match take_lot(&totals[..lot.len()], days, rounds, work, rows) {
+        Ok(count) => {
+            list(&rows[..], count, listed);
             count
         }
-        None => NONE,
+        Err(_) => NONE,
     }
 }
 
@@ -72,11 +56,9 @@ fn fill(totals: &mut [Cents], numbers: &[i64]) {
 
 // Writes three numbers a row.
 fn list(rows: &[Row<Cents>], count: usize, listed: &mut [i64]) {
-    for (row, place) in rows.iter().take(count).zip(listed.chunks_exact_mut(3)) {
-        if place.len() == 3 {
-            place[0] = i64::from(row.first);
-            place[1] = i64::from(row.width);
-            place[2] = row.amount.column(1).unwrap_or(0);
-        }
+    let (places, _) = listed.as_chunks_mut::<3>();
+    for (row, place) in rows.iter().take(count).zip(places) {
+        let amount = row.amount.column(1).unwrap_or(0);
+        *place = [i64::from(row.first), i64::from(row.width), amount];
     }
 }

@@ -1,24 +1,26 @@
 // The part that is measured.
+ghost use Rattle.std.specs.Prelude.{◌<◌};
+
 use kinds::Cents;
-use sheets::{Sheet, WorkEntry};
+use sheets::{Sheet, Stop, WorkEntry};
 use shelves::{OverRows, Row, RowShelf};
 
-// Takes each record of the lot, round by round. Answers the number of pulses of the last one, or
-// nothing where a record was refused.
+// Takes each record of the lot, round by round. Answers the number of pulses of the last one, or why
+// a record was stopped.
 pub(crate) fn take_lot(
     lot: &[Cents],
     days: usize,
     rounds: usize,
     work: &mut [WorkEntry<Cents>],
     rows: &mut [Row<Cents>],
-) -> Option<usize> {
+) -> Result<usize, Stop>
+    requires { 0 < days }
+{
     let mut sheet: Sheet<Cents, RowShelf<Cents>> = Sheet::new(RowShelf::over(rows));
     for _ in 0..rounds {
-        if !take_round(lot, days, &mut sheet, work) {
-            return None;
-        }
+        take_round(lot, days, &mut sheet, work)?;
     }
-    Some(sheet.pulses())
+    Ok(sheet.pulses())
 }
 
 fn take_round(
@@ -26,14 +28,11 @@ fn take_round(
     days: usize,
     sheet: &mut Sheet<Cents, RowShelf<Cents>>,
     work: &mut [WorkEntry<Cents>],
-) -> bool {
-    if days == 0 {
-        return false;
-    }
+) -> Result<(), Stop>
+    requires { 0 < days }
+{
     for record in lot.chunks_exact(days) {
-        if sheet.take(record, work).is_err() {
-            return false;
-        }
+        sheet.take(record, work)?;
     }
-    true
+    Ok(())
 }

@@ -1,9 +1,11 @@
 -- Which kind of total a text is read as, and what is told of it.
-use Rattle.std.proofs.Common.{◌≡◌, ℕ, suc, ◌≤◌, true, false, eqb, List, [], ◌∷◌, length, take, is_some, is_ok, Some, None, Ok, Err, Option, Result, sym, refl, ap, subst, inl, inr, arith}
-use Rattle.std.specs.Option.{option_map}
+use Rattle.std.proofs.Common.{◌≡◌, ℕ, suc, ◌≤◌, true, false, cond, eqb, ltb, List, [], ◌∷◌, length, take, is_some, is_ok, Some, None, Ok, Err, Option, Result, sym, refl, ap, subst, inl, inr, arith}
+use Rattle.std.specs.List.{position_or_len}
+use Rattle.std.specs.Option.{option_map, unwrap_or}
 use Rattle.std.specs.Str.{bytes_eq}
 use Rattle.std.proofs.lemmas.List.{length-take-le}
-use Rattle.std.proofs.lemmas.Bool.{cases_Bool, le-ltb}
+use Rattle.std.proofs.lemmas.List.Recursion.{is_position_or_len}
+use Rattle.std.proofs.lemmas.Bool.{cases_Bool, cases_lt, lt-ltb, le-ltb}
 use Rattle.kinds.specs.Kinds.{Kind}
 use Rattle.kinds.specs.Wholes.{paper, mobile}
 use Rattle.refusals.specs.declared.refusal.Refusal.{Refusal}
@@ -33,6 +35,21 @@ under_among [] name = refl
 under_among (n ∷ ns) name =
     rw (same_turned name n)
     (elim (cases_Bool (bytes_eq n name)) [ inl e ↦ rw e refl | inr e ↦ rw e (under_among ns name) ])
+
+-- how many bytes stand before the first c, in std's words
+reach_place : (c : ℕ) (bs : List ℕ) → reach c bs ≡ position_or_len (λ b. eqb b c) bs
+reach_place c = is_position_or_len (reach c) (λ b. eqb b c) refl (λ b bs. ap (λ n. cond (eqb b c) 0 n) (omega arith))
+
+placed : (n m : ℕ) → n ≤ m → unwrap_or (cond (ltb n m) (Some n) None) m ≡ n
+placed n m h =
+    elim (cases_lt n m) [ inl l ↦ rw (lt-ltb n m l) refl | inr g ↦ rw (le-ltb n m g) (omega arith) ]
+
+-- what is left of a search for the first c
+pub reach_found : (c : ℕ) (bs : List ℕ) (o : Option ℕ) → o ≡ cond (ltb (position_or_len (λ b. eqb b c) bs) (length bs)) (Some (position_or_len (λ b. eqb b c) bs)) None → unwrap_or o (length bs) ≡ reach c bs
+reach_found c bs o e =
+    let h = reach_place c bs in
+    let l : reach c bs ≤ length bs = reach_le c bs in
+    rw (e, ← h) (placed (reach c bs) (length bs) l)
 
 reach_first : (c : ℕ) (bs : List ℕ) → reach c (take (reach c bs) bs) ≡ reach c bs
 reach_first c [] = refl

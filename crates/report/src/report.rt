@@ -8,7 +8,7 @@ ghost use Rattle.report.specs.PulseTexts.{sheet_text};
 ghost use Rattle.report.specs.Reports.{first_line, names_pieces, report_as, report_of, Reported, most_bytes, ReportsFit, refusal_in, RecordTaken, SplitWritten, PulsesWritten, FaultTold, Told, ShortAlone, OfReport};
 
 use crate::sheet_text::write_pulses;
-use kinds::{Cents, Mobile, Paper, Total};
+use kinds::{Mobile, Paper, Total};
 use reading::{field, read_trace};
 use refusals::{FileFault, Refusal};
 use sheets::{Sheet, Stop, WorkEntry};
@@ -18,11 +18,6 @@ use writing::write_refusal;
 const MOST_DAYS: usize = 1000;
 
 const WORK_ENTRIES: usize = 1002;
-
-const LINE_FEED: u8 = b'\n';
-
-// The number of the refusal for want of room in the output buffer.
-const OUTPUT_TOO_SHORT: u8 = 14;
 
 // Room for the report on any text.
 pub const MOST_REPORT_BYTES: usize = 65_536;
@@ -40,12 +35,13 @@ pub fn report_on(text: &[u8], out: &mut [u8]) -> Result<usize, Refusal>
 
 // No report is longer than that room.
 pub fn reports_fit() -> u8
-    ensures { ReportsFit }
+    ensures fit { ReportsFit }
+    ensures room { MOST_REPORT_BYTES ≡ most_bytes }
 {
     0
 }
 
-// The report on a text of either kind of total.
+// Apart from the public call, which has no proof file: an edit of that call is then refused by a fact.
 fn report_either(text: &[u8], out: &mut [u8]) -> Result<usize, Refusal>
     ensures answer { Reported (report_of text.now) out.old out.new result }
     ensures room { most_bytes ≤ length out.old → is_ok result ≡ true }
@@ -71,7 +67,7 @@ fn first_line(text: &[u8]) -> &[u8]
     ensures { result.now ≡ first_line text.now }
 {
     let end = line_end(text);
-    &text[0..end]
+    &text[..end]
 }
 
 // Where it ends.
@@ -79,29 +75,27 @@ fn line_end(text: &[u8]) -> usize
     ensures end { result ≡ reach 10 text.now }
     ensures within { result ≤ length text.now }
 {
-    for (i, b) in text.iter().enumerate() {
-        if *b == LINE_FEED {
-            return i;
-        }
-    }
-    text.len()
+    text.iter()
+        .position(|byte| *byte == b'\n')
+        .unwrap_or(text.len())
 }
 
+// Stays twice, once for each kind: lists of a type parameter are not known to fit in memory.
 fn report_mobile(text: &[u8], out: &mut [u8]) -> Result<usize, Refusal>
     ensures { Reported (report_as mobile text.now) out.old out.new result }
 {
-    let mut totals: [Mobile; MOST_DAYS] = [Mobile::zero(); MOST_DAYS];
-    let mut work: [WorkEntry<Mobile>; WORK_ENTRIES] = [WorkEntry::new(); WORK_ENTRIES];
-    let mut rows: [Row<Mobile>; MOST_DAYS] = [blank(); MOST_DAYS];
+    let mut totals = [Mobile::zero(); MOST_DAYS];
+    let mut work = [WorkEntry::new(); WORK_ENTRIES];
+    let mut rows = [blank(); MOST_DAYS];
     report_with(text, &mut totals, &mut work, &mut rows, out)
 }
 
 fn report_paper(text: &[u8], out: &mut [u8]) -> Result<usize, Refusal>
     ensures { Reported (report_as paper text.now) out.old out.new result }
 {
-    let mut totals: [Paper; MOST_DAYS] = [Paper::zero(); MOST_DAYS];
-    let mut work: [WorkEntry<Paper>; WORK_ENTRIES] = [WorkEntry::new(); WORK_ENTRIES];
-    let mut rows: [Row<Paper>; MOST_DAYS] = [blank(); MOST_DAYS];
+    let mut totals = [Paper::zero(); MOST_DAYS];
+    let mut work = [WorkEntry::new(); WORK_ENTRIES];
+    let mut rows = [blank(); MOST_DAYS];
     report_with(text, &mut totals, &mut work, &mut rows, out)
 }
 
@@ -118,14 +112,11 @@ fn blank<K: Total>() -> Row<K> {
 // The report on a text of totals of one kind, in lists that have room for every record.
 fn report_with<K: Total>(
     text: &[u8],
-    totals: &mut [K],
-    work: &mut [WorkEntry<K>],
-    rows: &mut [Row<K>],
+    totals: &mut [K; MOST_DAYS],
+    work: &mut [WorkEntry<K>; WORK_ENTRIES],
+    rows: &mut [Row<K>; MOST_DAYS],
     out: &mut [u8],
 ) -> Result<usize, Refusal>
-    requires totals { length totals.old ≡ 1000 }
-    requires work { 1002 ≤ length work.old }
-    requires rows { 1000 ≤ length rows.old }
     ensures { Reported (report_as K.kind text.now) out.old out.new result }
 {
     let pulses = pulses_of(text, totals, work, rows, out);
@@ -135,14 +126,11 @@ fn report_with<K: Total>(
 // Reads a text as totals of one kind, splits the record and writes its pulses.
 fn pulses_of<K: Total>(
     text: &[u8],
-    totals: &mut [K],
-    work: &mut [WorkEntry<K>],
-    rows: &mut [Row<K>],
+    totals: &mut [K; MOST_DAYS],
+    work: &mut [WorkEntry<K>; WORK_ENTRIES],
+    rows: &mut [Row<K>; MOST_DAYS],
     out: &mut [u8],
 ) -> Result<usize, FileFault>
-    requires totals { length totals.old ≡ 1000 }
-    requires work { 1002 ≤ length work.old }
-    requires rows { 1000 ≤ length rows.old }
     ensures answer { PulsesWritten K.kind text.now out.old out.new result }
     ensures fault { OfReport result }
 {
@@ -177,10 +165,7 @@ fn take_front<K: Total, S: Shelf<K>>(
     requires { days ≤ length totals.now }
     ensures { RecordTaken K.kind (map K.columns (take days totals.now)) (length work.old) (state_of S.slots S.outside sheet.old) (state_of S.slots S.outside sheet.new) result }
 {
-    match sheet.take(&totals[0..days], work) {
-        Ok(pulses) => Ok(pulses),
-        Err(stop) => Err(refusal_in(stop)),
-    }
+    sheet.take(&totals[..days], work).map_err(refusal_in)
 }
 
 // Writes the pulse text of a sheet that some calls lead to.
@@ -188,10 +173,7 @@ fn write_sheet<K: Total, S: Shelf<K>>(sheet: &Sheet<K, S>, out: &mut [u8]) -> Re
     requires { (h : Calls K.kind) × Shows K.kind h (state_of S.slots S.outside sheet.now) }
     ensures { Reported (sheet_text K.kind (state_of S.slots S.outside sheet.now)) out.old out.new result }
 {
-    match write_pulses(sheet, out) {
-        Ok(bytes) => Ok(bytes),
-        Err(stop) => Err(refusal_in(stop)),
-    }
+    write_pulses(sheet, out).map_err(refusal_in)
 }
 
 // The refusal of a call of a sheet that some calls lead to: such a call stops for no other reason.
@@ -208,6 +190,7 @@ fn refusal_in(stop: Stop) -> Refusal
 fn tell(pulses: Result<usize, FileFault>, out: &mut [u8]) -> Result<usize, Refusal>
     ensures { Told pulses out.old out.new result }
 {
+    // Stays a match: what a closure writes through a borrow is not known behind it.
     match pulses {
         Ok(bytes) => Ok(bytes),
         Err(fault) => tell_fault(fault, out),
@@ -218,11 +201,11 @@ fn tell(pulses: Result<usize, FileFault>, out: &mut [u8]) -> Result<usize, Refus
 fn tell_fault(fault: FileFault, out: &mut [u8]) -> Result<usize, Refusal>
     ensures { FaultTold fault out.old out.new result }
 {
-    if fault.number() == OUTPUT_TOO_SHORT {
-        return Err(fault.refusal());
-    }
-    match write_refusal(fault.number(), fault.place(), out) {
-        Some(bytes) => Ok(bytes),
-        None => Err(Refusal::OutputTooShort),
+    match fault.refusal() {
+        Refusal::OutputTooShort => Err(Refusal::OutputTooShort),
+        refusal => {
+            let bytes = write_refusal(refusal.number(), fault.place(), out);
+            bytes.ok_or(Refusal::OutputTooShort)
+        }
     }
 }

@@ -1,80 +1,81 @@
 // How answers are printed.
 use kinds::Total;
-use refusals::Refusal;
 use sheets::{ListedPulse, Stop};
 use shelves::Mark;
-use std::io;
+use std::fmt;
 
 // The columns of a total, joined by a comma.
-pub fn print_total<K: Total>(rt: &HostRuntime, total: K) -> io::Result<()> {
-    let first = total.column(1).unwrap_or(0);
-    match total.column(2) {
-        Some(second) => print!(rt; "{first},{second}"),
-        None => print!(rt; "{first}"),
-    }
-}
+#[derive(Clone, Copy)]
+pub struct Columns<K>(pub K);
 
-pub fn print_stop(rt: &HostRuntime, stop: Stop) -> io::Result<()> {
-    match stop {
-        Stop::Refused(refusal) => print_refusal(rt, refusal),
-        Stop::Unreachable => println!(rt; "unreachable"),
-    }
-}
-
-pub fn print_refusal(rt: &HostRuntime, refusal: Refusal) -> io::Result<()> {
-    let number = refusal.number();
-    println!(rt; "refusal {number}")
-}
-
-pub fn print_count(rt: &HostRuntime, answer: Result<usize, Stop>) -> io::Result<()> {
-    match answer {
-        Ok(count) => println!(rt; "{count}"),
-        Err(stop) => print_stop(rt, stop),
-    }
-}
-
-pub fn print_answer<K: Total>(rt: &HostRuntime, answer: Result<K, Stop>) -> io::Result<()> {
-    match answer {
-        Ok(total) => {
-            print_total(rt, total)?;
-            println!(rt; "")
+impl<K: Total> fmt::Display for Columns<K> {
+    fn fmt<W: fmt::Write>(&self, f: &mut fmt::Formatter<W>) -> fmt::Result {
+        let first = self.0.column(1).unwrap_or(0);
+        match self.0.column(2) {
+            Some(second) => write!(f, "{first},{second}"),
+            None => write!(f, "{first}"),
         }
-        Err(stop) => print_stop(rt, stop),
-    }
-}
-
-fn state_of(mark: Mark) -> &'static str {
-    match mark {
-        Mark::In => "in",
-        Mark::Out => "out",
-    }
-}
-
-pub fn print_pulse<K: Total>(
-    rt: &HostRuntime,
-    number: usize,
-    answer: Result<ListedPulse<K>, Stop>,
-) -> io::Result<()> {
-    match answer {
-        Ok(pulse) => {
-            let width = pulse.stretch.width;
-            let first = pulse.stretch.first;
-            let state = state_of(pulse.mark);
-            print!(rt; "{number},{width},{first},")?;
-            print_total(rt, pulse.amount)?;
-            println!(rt; ",{state}")
-        }
-        Err(stop) => print_stop(rt, stop),
     }
 }
 
 // Totals separated by a space.
-pub fn print_totals<K: Total>(rt: &HostRuntime, totals: &[K]) -> io::Result<()> {
-    for (i, total) in totals.iter().enumerate() {
-        if i > 0 {
-            print!(rt; " ")?;
+#[derive(Clone, Copy)]
+pub struct Totals<'a, K>(pub &'a [K]);
+
+impl<K: Total> fmt::Display for Totals<'_, K> {
+    fn fmt<W: fmt::Write>(&self, f: &mut fmt::Formatter<W>) -> fmt::Result {
+        for (i, total) in self.0.iter().enumerate() {
+            let gap = if i > 0 { " " } else { "" };
+            write!(f, "{gap}{}", Columns(*total))?;
         }
-        print_total(rt, *total)?;
+        Ok(())
     }
-    println!(rt; "")
+}
+
+// A pulse under its number.
+#[derive(Clone, Copy)]
+pub struct Numbered<K>(pub usize, pub ListedPulse<K>);
+
+impl<K: Total> fmt::Display for Numbered<K> {
+    fn fmt<W: fmt::Write>(&self, f: &mut fmt::Formatter<W>) -> fmt::Result {
+        let number = self.0;
+        let pulse = self.1;
+        let width = pulse.stretch.width;
+        let first = pulse.stretch.first;
+        let state = match pulse.mark {
+            Mark::In => "in",
+            Mark::Out => "out",
+        };
+        write!(
+            f,
+            "{number},{width},{first},{},{state}",
+            Columns(pulse.amount)
+        )
+    }
+}
+
+// Why a call or a question was stopped.
+#[derive(Clone, Copy)]
+pub struct Stopped(pub Stop);
+
+impl fmt::Display for Stopped {
+    fn fmt<W: fmt::Write>(&self, f: &mut fmt::Formatter<W>) -> fmt::Result {
+        match self.0 {
+            Stop::Refused(refusal) => write!(f, "refusal {}", refusal.number()),
+            Stop::Unreachable => write!(f, "unreachable"),
+        }
+    }
+}
+
+// What a call or a question comes to.
+#[derive(Drop)]
+pub struct Answer<T>(pub Result<T, Stop>);
+
+impl<T: fmt::Display> fmt::Display for Answer<T> {
+    fn fmt<W: fmt::Write>(&self, f: &mut fmt::Formatter<W>) -> fmt::Result {
+        match &self.0 {
+            Ok(value) => write!(f, "{value}"),
+            Err(stop) => write!(f, "{}", Stopped(*stop)),
+        }
+    }
 }

@@ -1,7 +1,15 @@
 // The lines of a script, and what they ask for.
+ghost use Rattle.std.specs.Prelude.{◌<◌, ◌≤◌, length, OnSome};
+ghost use Rattle.std.specs.Iterator.{at_most};
 
 // The largest size, work list or list that a script may ask for.
 const MOST: usize = 1_000_000;
+
+#[derive(Clone, Copy)]
+pub enum Kind {
+    Paper,
+    Mobile,
+}
 
 #[derive(Clone, Copy)]
 pub enum Storage {
@@ -11,15 +19,16 @@ pub enum Storage {
 
 // What the first line makes.
 #[derive(Clone, Copy)]
-pub enum Opening {
-    Paper(Storage, usize),
-    Mobile(Storage, usize),
-    NoSheet,
+pub struct Opening {
+    pub kind: Kind,
+    pub storage: Storage,
+    pub size: usize,
 }
 
 #[derive(Clone, Copy)]
-pub enum Command {
-    Take(usize),
+pub enum Command<'a> {
+    // so many work entries, and the lines that follow, of which the last need not be ended
+    Take(usize, &'a [u8]),
     Remove(usize, usize),
     Restore(usize, usize),
     RemoveOne(usize),
@@ -32,8 +41,11 @@ pub enum Command {
     Swing,
     List,
     Memory,
-    NoCall,
 }
+
+// A line that asks for nothing.
+#[derive(Clone, Copy)]
+pub struct NotACall;
 
 // A script by what is still to be read of it. A last line need not be ended.
 #[derive(Drop)]
@@ -42,106 +54,32 @@ pub struct Script<'a> {
 }
 
 // The first line of some bytes, and what follows its line feed.
-fn split_line(bytes: &[u8]) -> (&[u8], &[u8]) {
-    for (end, byte) in bytes.iter().enumerate() {
-        if *byte == b'\n' {
-            return (&bytes[0..end], &bytes[end + 1..]);
-        }
-    }
-    (bytes, &bytes[bytes.len()..])
-}
-
-impl<'a> Script<'a> {
-    pub fn new(input: &'a [u8]) -> Script<'a> {
-        Script { left: input }
-    }
-
-    // The number of bytes still to be read.
-    pub fn left(&self) -> usize {
-        self.left.len()
-    }
-
-    // The next line, or nothing at the end.
-    pub fn line(&mut self) -> Option<&'a [u8]> {
-        let bytes = self.left;
-        if bytes.len() == 0 {
-            return None;
-        }
-        let (line, rest) = split_line(bytes);
-        self.left = rest;
-        Some(line)
-    }
-
-    // What the first line makes.
-    pub fn opening(&mut self) -> Opening {
-        let Some(line) = self.line() else {
-            return Opening::NoSheet;
-        };
-        opening_of(Words::of(line))
-    }
-
-    // What the next line asks for, or nothing at the end.
-    pub fn command(&mut self) -> Option<Command> {
-        let Some(line) = self.line() else {
-            return None;
-        };
-        Some(command_of(Words::of(line)))
+fn split_line(bytes: &[u8]) -> (&[u8], &[u8])
+    requires { 0 < length bytes.now }
+    ensures { length result.1.now < length bytes.now }
+{
+    match bytes.iter().position(|byte| *byte == b'\n') {
+        Some(end) => (&bytes[..end], &bytes[end + 1..]),
+        None => (bytes, &[]),
     }
 }
 
-// The first three words of a line, and how many it has.
-#[derive(Drop)]
-struct Words<'a> {
-    first: &'a [u8],
-    second: &'a [u8],
-    third: &'a [u8],
-    count: usize,
-}
-
-// The first word of some bytes and what follows its space, if one does.
-fn split_word(bytes: &[u8]) -> (&[u8], Option<&[u8]>) {
-    for (end, byte) in bytes.iter().enumerate() {
-        if *byte == b' ' {
-            return (&bytes[0..end], Some(&bytes[end + 1..]));
-        }
+// The lines up to an empty one, and what follows that.
+fn split_text(bytes: &[u8]) -> (&[u8], &[u8])
+    ensures { length result.1.now ≤ length bytes.now }
+{
+    if let [b'\n', rest @ ..] = bytes {
+        return (&[], rest);
     }
-    (bytes, None)
-}
-
-impl<'a> Words<'a> {
-    fn of(line: &'a [u8]) -> Words<'a> {
-        let (first, after_first) = split_word(line);
-        let Some(rest) = after_first else {
-            return Words {
-                first,
-                second: line,
-                third: line,
-                count: 1,
-            };
-        };
-        let (second, after_second) = split_word(rest);
-        let Some(rest) = after_second else {
-            return Words {
-                first,
-                second,
-                third: line,
-                count: 2,
-            };
-        };
-        let (third, after_third) = split_word(rest);
-        let count = if after_third.is_none() { 3 } else { 4 };
-        Words {
-            first,
-            second,
-            third,
-            count,
-        }
+    match bytes.windows(2).position(|pair| pair == b"\n\n".as_slice()) {
+        Some(end) => (&bytes[..end + 1], &bytes[end + 2..]),
+        None => (bytes, &[]),
     }
 }
 
 // A plain decimal number below 2^64, without leading zeros.
 fn number_of(word: &[u8]) -> Option<usize> {
-    if word.len() == 0 || (word.len() > 1 && word[0] == b'0') {
+    if let [] | [b'0', _, ..] = word {
         return None;
     }
     let mut value = 0usize;
@@ -150,100 +88,111 @@ fn number_of(word: &[u8]) -> Option<usize> {
             b'0'..=b'9' => (*byte - b'0') as usize,
             _ => return None,
         };
-        let Some(tens) = value.checked_mul(10) else {
-            return None;
-        };
-        let Some(more) = tens.checked_add(digit) else {
-            return None;
-        };
-        value = more;
+        value = value.checked_mul(10)?.checked_add(digit)?;
     }
     Some(value)
 }
 
 fn within_most(word: &[u8]) -> Option<usize> {
-    match number_of(word) {
-        Some(number) => { if number <= MOST { Some(number) } else { None } }
-        None => None,
-    }
+    number_of(word).filter(|number| *number <= MOST)
 }
 
-fn opening_of(words: Words) -> Opening {
-    if words.count != 3 {
-        return Opening::NoSheet;
-    }
-    let Some(size) = within_most(words.third) else {
-        return Opening::NoSheet;
+fn opening_of(line: &[u8]) -> Option<Opening> {
+    let mut words = line.split(|byte| *byte == b' ');
+    let kind = match words.next()? {
+        b"paper" => Kind::Paper,
+        b"mobile" => Kind::Mobile,
+        _ => return None,
     };
-    let storage = match words.second {
+    let storage = match words.next()? {
         b"rows" => Storage::Rows,
         b"bytes" => Storage::Bytes,
-        _ => return Opening::NoSheet,
+        _ => return None,
     };
-    match words.first {
-        b"paper" => Opening::Paper(storage, size),
-        b"mobile" => Opening::Mobile(storage, size),
-        _ => Opening::NoSheet,
+    let size = within_most(words.next()?)?;
+    if words.next().is_some() {
+        return None;
     }
+    Some(Opening {
+        kind,
+        storage,
+        size,
+    })
 }
 
-fn command_of(words: Words) -> Command {
-    match words.count {
-        1 => bare_command(words.first),
-        2 => numbered_command(words.first, words.second),
-        3 => ranged_command(words.first, words.second, words.third),
-        _ => Command::NoCall,
+impl<'a> Script<'a> {
+    pub fn new(input: &'a [u8]) -> Script<'a> {
+        Script { left: input }
     }
-}
 
-fn bare_command(name: &[u8]) -> Command {
-    match name {
-        b"days" => Command::Days,
-        b"pulses" => Command::Pulses,
-        b"swing" => Command::Swing,
-        b"list" => Command::List,
-        b"memory" => Command::Memory,
-        _ => Command::NoCall,
-    }
-}
-
-fn numbered_command(name: &[u8], word: &[u8]) -> Command {
-    let Some(number) = number_of(word) else {
-        return Command::NoCall;
-    };
-    match name {
-        b"remove-one" => Command::RemoveOne(number),
-        b"restore-one" => Command::RestoreOne(number),
-        b"pulse" => Command::Pulse(number),
-        b"standing" => Command::Standing(number),
-        b"take" => {
-            if number <= MOST {
-                Command::Take(number)
-            } else {
-                Command::NoCall
-            }
+    // The next line, or nothing at the end.
+    fn line(&mut self) -> Option<&'a [u8]>
+        ensures { OnSome result (length self.new.left.now < length self.old.left.now) }
+    {
+        if self.left.is_empty() {
+            return None;
         }
-        b"trace" => {
-            if number <= MOST {
-                Command::Trace(number)
-            } else {
-                Command::NoCall
+        let (line, rest) = split_line(self.left);
+        self.left = rest;
+        Some(line)
+    }
+
+    // The lines up to an empty one or the end.
+    fn text(&mut self) -> &'a [u8]
+        ensures { length self.new.left.now ≤ length self.old.left.now }
+    {
+        let (text, rest) = split_text(self.left);
+        self.left = rest;
+        text
+    }
+
+    // What the first line makes, unless it makes no sheet.
+    pub fn opening(&mut self) -> Option<Opening> {
+        opening_of(self.line()?)
+    }
+
+    // What a line asks for, with the text behind it where it takes one.
+    fn command(&mut self, line: &'a [u8]) -> Option<Command<'a>>
+        ensures { length self.new.left.now ≤ length self.old.left.now }
+    {
+        let mut words = line.split(|byte| *byte == b' ');
+        let words = [words.next(), words.next(), words.next(), words.next()];
+        let command = match words {
+            [Some(b"days"), None, ..] => Command::Days,
+            [Some(b"pulses"), None, ..] => Command::Pulses,
+            [Some(b"swing"), None, ..] => Command::Swing,
+            [Some(b"list"), None, ..] => Command::List,
+            [Some(b"memory"), None, ..] => Command::Memory,
+            [Some(b"remove-one"), Some(number), None, _] => Command::RemoveOne(number_of(number)?),
+            [Some(b"restore-one"), Some(number), None, _] => {
+                Command::RestoreOne(number_of(number)?)
             }
-        }
-        _ => Command::NoCall,
+            [Some(b"pulse"), Some(number), None, _] => Command::Pulse(number_of(number)?),
+            [Some(b"standing"), Some(day), None, _] => Command::Standing(number_of(day)?),
+            [Some(b"trace"), Some(room), None, _] => Command::Trace(within_most(room)?),
+            [Some(b"take"), Some(entries), None, _] => {
+                Command::Take(within_most(entries)?, self.text())
+            }
+            [Some(b"remove"), Some(low), Some(high), None] => {
+                Command::Remove(number_of(low)?, number_of(high)?)
+            }
+            [Some(b"restore"), Some(low), Some(high), None] => {
+                Command::Restore(number_of(low)?, number_of(high)?)
+            }
+            _ => return None,
+        };
+        Some(command)
     }
 }
 
-fn ranged_command(name: &[u8], low: &[u8], high: &[u8]) -> Command {
-    let Some(lowest) = number_of(low) else {
-        return Command::NoCall;
-    };
-    let Some(highest) = number_of(high) else {
-        return Command::NoCall;
-    };
-    match name {
-        b"remove" => Command::Remove(lowest, highest),
-        b"restore" => Command::Restore(lowest, highest),
-        _ => Command::NoCall,
+// What each line asks for.
+impl<'a> Iterator for Script<'a> {
+    type Item = Result<Command<'a>, NotACall>;
+
+    ghost remaining = { λ s. at_most (length s.left.now) };
+
+    fn next(&mut self) -> Option<Result<Command<'a>, NotACall>> {
+        let line = self.line()?;
+        Some(self.command(line).ok_or(NotACall))
     }
 }

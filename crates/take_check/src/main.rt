@@ -23,22 +23,22 @@ fn taken(heap: Global, record: &[i64]) -> Result<Option<Vec<Pulse>>, AllocError>
     };
     let totals: Vec<Cents> = record.iter().map(|value| Cents::new(*value)).collect(heap)?;
     let mut rows = vec![in heap; blank; record.len()]?;
-    let mut work = vec![in heap; WorkEntry::new(); record.len().saturating_add(2)]?;
-    let mut sheet: Sheet<Cents, RowShelf<Cents>> = Sheet::new(RowShelf::over(rows.as_mut_slice()));
-    let Ok(count) = sheet.take(totals.as_slice(), work.as_mut_slice()) else {
+    let mut work = vec![in heap; WorkEntry::new(); record.len() + 2]?;
+    let mut sheet: Sheet<Cents, RowShelf<Cents>> = Sheet::new(RowShelf::over(&mut rows));
+    let Ok(count) = sheet.take(&totals, &mut work) else {
         return Ok(None);
     };
     drop(sheet);
-    let list = rows
-        .iter()
-        .take(count)
-        .map(|row| Pulse {
-            first: row.first as usize,
-            width: row.width as usize,
-            amount: row.amount.column(1).unwrap_or(0),
-        })
-        .collect(heap)?;
+    let list: Vec<Pulse> = rows.iter().take(count).map(pulse_of).collect(heap)?;
     Ok(Some(list))
+}
+
+fn pulse_of(row: &Row<Cents>) -> Pulse {
+    Pulse {
+        first: usize::from(row.first),
+        width: usize::from(row.width),
+        amount: row.amount.column(1).unwrap_or(0),
+    }
 }
 
 fn run(rt: &(impl Print + AllocGlobal)) -> anyhow::Result<()> {
@@ -47,16 +47,15 @@ fn run(rt: &(impl Print + AllocGlobal)) -> anyhow::Result<()> {
     for number in 0..RECORDS {
         let record = record(heap, number)?;
         let days = record.len();
-        let expected = pulses(heap, record.as_slice())?;
+        let expected = pulses(heap, &record)?;
         let count = expected.len();
-        match taken(heap, record.as_slice())? {
-            Some(list) => {
-                if list.as_slice() == expected.as_slice() {
-                    println!(rt; "record {number}: {days} days, {count} pulses")?;
-                } else {
-                    wrong = wrong.saturating_add(1);
-                    println!(rt; "record {number}: take differs")?;
-                }
+        match taken(heap, &record)? {
+            Some(list) if list == expected => {
+                println!(rt; "record {number}: {days} days, {count} pulses")?;
+            }
+            Some(_) => {
+                wrong = wrong.saturating_add(1);
+                println!(rt; "record {number}: take differs")?;
             }
             None => {
                 wrong = wrong.saturating_add(1);

@@ -1,18 +1,12 @@
-use Rattle.std.proofs.Common.{arith}
-use Rattle.reading.proofs.PartFacts.{reach_stop, reach_pass, reach_end}
+use borrow.Author.Tests.{tests}
+use Rattle.std.proofs.Common.{eqb, ◌∙◌, rules}
+use Rattle.std.proofs.lemmas.Iterator.{YieldsList-from_slice}
+use Rattle.std.proofs.lemmas.Iterator.Search.{position_from_yields_List}
+use Rattle.report.proofs.TellFacts.{reach_found}
 use Rattle.report.proofs.report.line_end.Goals as goal
 
-pub returns-then-b-eq-LINE_FEED : goal.returns-then-b-eq-LINE_FEED
-returns-then-b-eq-LINE_FEED c =
-    let e = reach_stop 10 c.args.text.now c.loop-i.i (omega arith) c.if-b-eq-LINE_FEED.true in
-    record { end = omega arith; within = omega arith }
-
-pub loop-i-preserved : goal.loop-i-preserved
-loop-i-preserved c =
-    let e = reach_pass 10 c.args.text.now c.loop-i.i (omega arith) c.if-b-eq-LINE_FEED.false in
-    omega arith
-
-pub returns : goal.returns
-returns c =
-    let e = reach_end 10 c.args.text.now c.loop-i.i (omega arith) in
-    record { end = omega arith; within = omega arith }
+pub returns-clause-end : goal.returns-clause-end
+returns-clause-end c =
+    c.unwrap_or.ensures
+    ∙ reach_found 10 c.args.text.now c.position.result
+    (position_from_yields_List (λ b. eqb b 10) _ _ c.position.result c.position.ensures.ran (YieldsList-from_slice c.args.text.now cc) (λ x b q k. search (rules, tests)))
