@@ -3,7 +3,7 @@ ghost use Rattle.std.specs.Prelude.{◌<◌};
 
 use kinds::Cents;
 use sheets::{Sheet, Stop, WorkEntry};
-use shelves::{OverRows, Row, RowShelf};
+use shelves::{Row, RowShelf};
 
 // Takes each record of the lot, round by round. Answers the number of pulses of the last one, or why
 // a record was stopped.

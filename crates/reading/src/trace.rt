@@ -149,8 +149,7 @@ pub fn read_trace<K: Total>(text: &[u8], totals: &mut [K]) -> Result<usize, File
 
 // The law of reading, for proofs above: what is accepted has the lines of its record, and what is
 // refused meets that condition first.
-pub fn reading_law() -> u8
+pub fn reading_law()
     ensures { ReadingLaw }
 {
-    0
 }

@@ -166,10 +166,9 @@ impl FileFault {
 }
 
 // The law of faults, for proofs above: number, line and byte of a fault of reading determine it.
-pub fn faults_told_apart() -> u8
+pub fn faults_told_apart()
     ensures { ToldApart }
 {
-    0
 }
 
 const NOWHERE: Place = Place { line: 0, byte: 0 };

@@ -12,7 +12,7 @@ use kinds::{Mobile, Paper, Total};
 use reading::{field, read_trace};
 use refusals::{FileFault, Refusal};
 use sheets::{Sheet, Stop, WorkEntry};
-use shelves::{OverRows, Row, RowShelf, Shelf};
+use shelves::{Row, RowShelf, Shelf};
 use writing::write_refusal;
 
 const MOST_DAYS: usize = 1000;
@@ -34,11 +34,10 @@ pub fn report_on(text: &[u8], out: &mut [u8]) -> Result<usize, Refusal>
 }
 
 // No report is longer than that room.
-pub fn reports_fit() -> u8
+pub fn reports_fit()
     ensures fit { ReportsFit }
     ensures room { MOST_REPORT_BYTES ≡ most_bytes }
 {
-    0
 }
 
 // Apart from the public call, which has no proof file: an edit of that call is then refused by a fact.

@@ -10,7 +10,7 @@ use kinds::{Mobile, Paper, Total};
 use memory::{print_bytes, print_rows};
 use script::{Kind, Opening, Script, Storage};
 use session::{Ending, play};
-use shelves::{ByteShelf, OverBytes, OverRows, Row, RowShelf};
+use shelves::{ByteShelf, Row, RowShelf};
 
 // A script on a sheet over rows, of any kind.
 fn over_rows<K: Total>(rt: &HostRuntime, script: Script<'_>, size: usize) -> anyhow::Result<()> {

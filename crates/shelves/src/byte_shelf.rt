@@ -98,8 +98,8 @@ impl<'a, K: Total> Shelf<K> for ByteShelf<'a, K> {
 impl<'a, K: Total> ByteShelf<'a, K> {
     // A shelf over lent bytes; those past the whole slots never change.
     pub fn over(bytes: &'a mut [u8]) -> ByteShelf<'a, K>
-        ensures slots { shown_bytes K.kind result.bytes.now ≡ shown_bytes K.kind bytes.old }
-        ensures outside { over_bytes K.kind result.bytes ≡ over_bytes K.kind bytes.entry }
+        ensures slots { ⟦<ByteShelf<'a, K> as Shelf<K>>⟧.slots result ≡ shown_bytes K.kind bytes.old }
+        ensures outside { ⟦<ByteShelf<'a, K> as Shelf<K>>⟧.outside result ≡ over_bytes K.kind bytes.entry }
         ensures bytes { result.bytes ≡ bytes.entry }
     {
         ByteShelf {

@@ -70,8 +70,8 @@ impl<'a, K: Total> Shelf<K> for RowShelf<'a, K> {
 impl<'a, K: Total> RowShelf<'a, K> {
     // A shelf over lent rows.
     pub fn over(rows: &'a mut [Row<K>]) -> RowShelf<'a, K>
-        ensures slots { shown_rows K.kind K.columns result.rows.now ≡ shown_rows K.kind K.columns rows.old }
-        ensures outside { over_rows result.rows ≡ over_rows rows.entry }
+        ensures slots { ⟦<RowShelf<'a, K> as Shelf<K>>⟧.slots result ≡ shown_rows K.kind K.columns rows.old }
+        ensures outside { ⟦<RowShelf<'a, K> as Shelf<K>>⟧.outside result ≡ over_rows rows.entry }
         ensures rows { result.rows ≡ rows.entry }
     {
         RowShelf { rows }

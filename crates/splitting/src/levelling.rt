@@ -246,7 +246,7 @@ fn row_in<K: Total>(first: usize, width: usize, amount: K) -> Row<K>
     Row {
         first: first as u16,
         width: width as u16,
-        mark: Mark::In.number(),
+        mark: u8::from(Mark::In),
         amount,
     }
 }

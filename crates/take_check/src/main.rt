@@ -7,7 +7,7 @@ mod windows;
 use kinds::{Cents, Total};
 use records::record;
 use sheets::{Sheet, WorkEntry};
-use shelves::{OverRows, Row, RowShelf};
+use shelves::{Row, RowShelf};
 use std::alloc::{AllocError, Global};
 use windows::{Pulse, pulses};
 
