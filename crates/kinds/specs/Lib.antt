@@ -4,3 +4,4 @@ pub mod Pairs
 pub mod Wholes
 pub mod PairsLemmas
 pub mod Singles
+pub mod Orders

@@ -13,7 +13,6 @@ use crate::standing::standing_on;
 use kinds::Total;
 use refusals::Refusal;
 use shelves::{Mark, Shelf, Stretch};
-use std::cmp::Ordering;
 
 // A pulse as a sheet lists it.
 #[derive(Clone, Copy)]
@@ -110,10 +109,10 @@ fn write_trace<K: Total, S: Shelf<K>>(sheet: &Sheet<K, S>, totals: &mut [K]) -> 
 fn size_of<K: Total>(amount: K) -> Option<K>
     ensures { Gives K.kind K.columns (size K.kind (K.columns amount)) result }
 {
-    match amount.compare(K::zero()) {
-        Ordering::Less => K::zero().difference(amount),
-        Ordering::Equal => Some(amount),
-        Ordering::Greater => Some(amount),
+    if amount < K::zero() {
+        K::zero().difference(amount)
+    } else {
+        Some(amount)
     }
 }
 

@@ -5,7 +5,7 @@ ghost use Rattle.transform.specs.Windows.{trace};
 ghost use Rattle.splitting.specs.Work.{view};
 ghost use Rattle.splitting.specs.Runs.{Knows, Laid, Marks};
 
-use crate::work::{WorkEntry, same, set_mark, set_run};
+use crate::work::{WorkEntry, set_mark, set_run};
 use kinds::Total;
 
 // How far the record is laid out: the first day and the total of the run that is open, and how many
@@ -28,7 +28,7 @@ impl<K: Total> Layout<K> {
         ensures first { result.first ≤ suc day }
         ensures marks { result.marks ≤ suc day }
     {
-        if same(self.total, total) {
+        if self.total == total {
             return self;
         }
         set_run(work, self.first, day, self.total);

@@ -9,10 +9,9 @@ ghost use Rattle.splitting.specs.Records.{marked_in, row_of};
 ghost use Rattle.splitting.specs.Work.{view};
 ghost use Rattle.splitting.specs.Passes.{aimed, FateOf, Joins, Relaid, bump_pulse, Marked, Midway, Visiting, Added, Ready, SlotsLeft, Swept};
 
-use crate::work::{WorkEntry, mark_at, other_at, same, set_mark, set_run, total_at};
+use crate::work::{WorkEntry, mark_at, other_at, set_mark, set_run, total_at};
 use kinds::Total;
 use shelves::{Mark, Row, Shelf};
-use std::cmp::Ordering;
 
 // What a pass levels: bumps, or pits, which are bumps of the turned order.
 #[derive(Clone, Copy, PartialEq, Eq, Debug)]
@@ -26,14 +25,9 @@ impl Aim {
     fn under<K: Total>(self, a: K, b: K) -> bool
         ensures { result ≡ (aimed K.kind self).below (K.columns a) (K.columns b) }
     {
-        let order = match self {
-            Aim::Bumps => a.compare(b),
-            Aim::Pits => b.compare(a),
-        };
-        match order {
-            Ordering::Less => true,
-            Ordering::Equal => false,
-            Ordering::Greater => false,
+        match self {
+            Aim::Bumps => a < b,
+            Aim::Pits => b < a,
         }
     }
 
@@ -256,7 +250,7 @@ fn joined<K: Total>(work: &[WorkEntry<K>], level: K, neighbour: usize, end: usiz
     requires { neighbour < length work.now }
     ensures { Joins (view K.kind K.columns work.now) ((view K.kind K.columns work.now).total neighbour) (K.columns level) neighbour end result }
 {
-    if same(total_at(work, neighbour), level) {
+    if total_at(work, neighbour) == level {
         other_at(work, neighbour)
     } else {
         end

@@ -1,9 +1,8 @@
 // The work list of a take: the totals of days 0 to days + 1, known at the ends of their runs.
-ghost use Rattle.std.specs.Prelude.{◌≡◌, ◌<◌, length, MatchBool, ◌≢◌};
+ghost use Rattle.std.specs.Prelude.{◌≡◌, ◌<◌, length};
 ghost use Rattle.splitting.specs.Work.{Cleared, view, with_end, with_mark, with_run};
 
 use kinds::Total;
-use std::cmp::Ordering;
 
 // One entry of a work list. Entry d belongs to day d, where day 0 and the day after the last stand
 // for the days outside the record.
@@ -82,15 +81,4 @@ fn set_end<K: Total>(work: &mut [WorkEntry<K>], day: usize, other: usize, total:
     let entry = &mut work[day];
     entry.total = total;
     entry.other = other;
-}
-
-// Whether two totals are equal.
-pub(crate) fn same<K: Total>(a: K, b: K) -> bool
-    ensures { MatchBool result (K.columns a ≡ K.columns b) (K.columns a ≢ K.columns b) }
-{
-    match a.compare(b) {
-        Ordering::Equal => true,
-        Ordering::Less => false,
-        Ordering::Greater => false,
-    }
 }
