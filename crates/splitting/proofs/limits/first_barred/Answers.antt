@@ -1,11 +1,8 @@
-use Rattle.std.proofs.Common.{◌≡◌, suc, ◌+◌, sym, refl, inl, inr, arith}
+use Rattle.std.proofs.Common.{◌≡◌, suc, ◌+◌, sym, inl, inr, arith}
 use Rattle.std.proofs.lemmas.List.{length-map}
 use Rattle.std.proofs.lemmas.Bool.{cases_lt}
 use Rattle.splitting.proofs.Days.{trace_at}
 use Rattle.splitting.proofs.limits.first_barred.Goals as goal
-
-pub loop-total-init : goal.loop-total-init
-loop-total-init g c = (refl, λ d h l. absurd (omega arith))
 
 pub returns-then-not-may_enter : goal.returns-then-not-may_enter
 returns-then-not-may_enter g c =
@@ -26,6 +23,3 @@ loop-total-preserved g c =
         | inr m ↦ rw (let e : d ≡ suc c.loop-total.total-index = omega arith in e, at) (sym c.if-not-may_enter.ensures)
       ],
     )
-
-pub returns : goal.returns
-returns g c = λ d h l. c.loop-total.invariant.1 d h (omega (arith, simp length-map at l))

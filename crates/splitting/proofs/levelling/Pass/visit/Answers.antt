@@ -72,60 +72,48 @@ set_mark-requires g c =
     let V = c.requires.stands.4 in
     omega (arith, V.mid.behind, V.here, V.few)
 
-pub returns-in-Levelled : goal.returns-in-Levelled
-returns-in-Levelled g c =
+pub returns-in-Levelled-clause-stands : goal.returns-in-Levelled-clause-stands
+returns-in-Levelled-clause-stands g c =
     let O = g.met.K.Total.lawful in
     let q = c.other_at.ensures in
     let F = rw c.other_at.ensures at c.in-Levelled.ensures in
     let E = rw c.other_at.ensures at c.level-first.ensures in
     let v = view g.K.Total.kind g.K.Total.columns c.args.work.now in
-    record {
-      stands = λ b a i hi V. (
-        visit_levelled O V F E c.marked.ensures,
-        record {
-          list = bump_pulse g.K.Total.kind c.args.self.aim v c.args.self.width c.args.first (v.other c.args.first) ∷ [];
-          more = levelled_one O V F E c.marked.ensures;
-          put = c.put_next-rows.ensures.slots ∙ ap (λ e. set (g.S.Shelf.slots c.args.shelf.now) c.args.at.rows e) (rw c.other_at.ensures at c.pulse.ensures);
-          count = c.put_next-rows.ensures.rows;
-        },
-      );
-      rows = omega (arith, c.put_next-rows.ensures.rows);
-      outside = c.put_next-rows.ensures.outside;
-    }
+    λ b a i hi V. (
+      visit_levelled O V F E c.marked.ensures,
+      record {
+        list = bump_pulse g.K.Total.kind c.args.self.aim v c.args.self.width c.args.first (v.other c.args.first) ∷ [];
+        more = levelled_one O V F E c.marked.ensures;
+        put = c.put_next-rows.ensures.slots ∙ ap (λ e. set (g.S.Shelf.slots c.args.shelf.now) c.args.at.rows e) (rw c.other_at.ensures at c.pulse.ensures);
+        count = c.put_next-rows.ensures.rows;
+      },
+    )
 
-pub returns-in-Kept : goal.returns-in-Kept
-returns-in-Kept g c =
+pub returns-in-Kept-clause-stands : goal.returns-in-Kept-clause-stands
+returns-in-Kept-clause-stands g c =
     let O = g.met.K.Total.lawful in
     let F = rw c.other_at.ensures at c.in-Kept.ensures in
     let e : c.args.at.kept + 1 ≡ suc c.args.at.kept = omega arith in
-    record {
-      stands = λ b a i hi V. (
-        rw (c.set_mark.ensures, e, c.other_at.ensures) (visit_kept O V F),
-        record {
-          list = [];
-          more = rw (c.other_at.ensures, append-nil) (kept_none O V F);
-          put = refl;
-          count = omega arith;
-        },
-      );
-      rows = omega arith;
-      outside = refl;
-    }
+    λ b a i hi V. (
+      rw (c.set_mark.ensures, e, c.other_at.ensures) (visit_kept O V F),
+      record {
+        list = [];
+        more = rw (c.other_at.ensures, append-nil) (kept_none O V F);
+        put = refl;
+        count = omega arith;
+      },
+    )
 
-pub returns-in-Dropped : goal.returns-in-Dropped
-returns-in-Dropped g c =
+pub returns-in-Dropped-clause-stands : goal.returns-in-Dropped-clause-stands
+returns-in-Dropped-clause-stands g c =
     let O = g.met.K.Total.lawful in
     let F = rw c.other_at.ensures at c.in-Dropped.ensures in
-    record {
-      stands = λ b a i hi V. (
-        rw c.other_at.ensures (visit_dropped O V F),
-        record {
-          list = [];
-          more = rw (c.other_at.ensures, append-nil) (dropped_none O V F);
-          put = refl;
-          count = omega arith;
-        },
-      );
-      rows = omega arith;
-      outside = refl;
-    }
+    λ b a i hi V. (
+      rw c.other_at.ensures (visit_dropped O V F),
+      record {
+        list = [];
+        more = rw (c.other_at.ensures, append-nil) (dropped_none O V F);
+        put = refl;
+        count = omega arith;
+      },
+    )
