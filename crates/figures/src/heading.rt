@@ -4,7 +4,7 @@ ghost use Rattle.figures.specs.Headings.{letters, first, second, heading, headin
 
 use kinds::Total;
 
-#[derive(Clone, Copy)]
+#[derive(Clone, Copy, Debug, PartialEq, Eq)]
 pub enum Heading {
     Day,
     Cents,

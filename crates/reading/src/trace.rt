@@ -28,6 +28,7 @@ fn keep<K: Total>(totals: &mut [K], place: usize, total: K)
 
 // Reads the lines of values, of which the first starts at byte `start` of the text, into the list
 // as far as it goes, and answers their number.
+// Stays a loop over cuts: a walk over lines would have to tell which of them are ended.
 fn read_values<K: Total>(
     names: &[u8],
     values: &[u8],

@@ -48,10 +48,9 @@ fn put_total<K: Total>(heap: Global, answer: &mut String, total: K) -> Result<()
 // The days and their totals, of more than four days only the last.
 fn accepted<K: Total>(heap: Global, totals: &[K], days: usize) -> Result<String, AllocError> {
     let mut answer = format!(in heap; "{days} days")?;
-    for (i, total) in totals.iter().enumerate() {
-        if i < days && (days <= 4 || days - i == 1) {
-            put_total(heap, &mut answer, *total)?;
-        }
+    let passed = if days <= 4 { 0 } else { days - 1 };
+    for total in totals.iter().take(days).skip(passed) {
+        put_total(heap, &mut answer, *total)?;
     }
     Ok(answer)
 }

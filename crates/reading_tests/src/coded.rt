@@ -4,12 +4,10 @@ use std::alloc::{AllocError, Global};
 
 // What stands before the first such mark, and what follows it.
 pub fn cut(bytes: &[u8], mark: u8) -> (&[u8], &[u8]) {
-    for (end, byte) in bytes.iter().enumerate() {
-        if *byte == mark {
-            return (&bytes[0..end], &bytes[end + 1..]);
-        }
+    match bytes.iter().position(|byte| *byte == mark) {
+        Some(end) => (&bytes[..end], &bytes[end + 1..]),
+        None => (bytes, &[]),
     }
-    (bytes, &bytes[bytes.len()..])
 }
 
 // The number that the digits make.

@@ -53,13 +53,10 @@ fn try_row(rt: &HostRuntime, row: &[u8]) -> anyhow::Result<()> {
 }
 
 fn try_table(rt: &HostRuntime, table: &[u8]) -> anyhow::Result<()> {
-    let mut left = table;
-    for _ in 0..table.len() {
-        let (row, more) = cut(left, b'\n');
-        if row.len() > 0 && row[0] != b'#' {
+    for row in table.split(|byte| *byte == b'\n') {
+        if row.first().is_some_and(|byte| *byte != b'#') {
             try_row(rt, row)?;
         }
-        left = more;
     }
     Ok(())
 }

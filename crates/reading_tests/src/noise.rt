@@ -1,7 +1,6 @@
 // Texts that nobody wrote: pseudo-random bytes, and good texts with each byte damaged in turn. What
 // reading them answers is counted by the number of the refusal.
 use crate::answers::answer_number;
-use crate::coded::cut;
 use kinds::Total;
 use std::alloc::{AllocError, Global};
 
@@ -19,9 +18,8 @@ impl Tally {
     }
 
     fn add(&mut self, number: u8) {
-        let at = number as usize;
-        if at < 16 {
-            self.counts[at] = self.counts[at].saturating_add(1);
+        if let Some(count) = self.counts.get_mut(number as usize) {
+            *count = count.saturating_add(1);
         }
     }
 
@@ -51,13 +49,10 @@ fn drawn(state: u64) -> u8 {
 
 // One of the words, counted from 0; they are separated by a space.
 fn word(words: &[u8], number: u8) -> &[u8] {
-    let mut left = words;
-    for _ in 0..number {
-        let (_, more) = cut(left, b' ');
-        left = more;
-    }
-    let (first, _) = cut(left, b' ');
-    first
+    words
+        .split(|byte| *byte == b' ')
+        .nth(number as usize)
+        .unwrap_or(&[])
 }
 
 // Texts that begin with a names line and go on with words drawn from sixteen, or with bytes of any
@@ -75,7 +70,7 @@ pub fn random_texts<K: Total>(
         state = stirred(state);
         for _ in 0..drawn(state) & mask {
             state = stirred(state);
-            if words.len() == 0 {
+            if words.is_empty() {
                 text.push(drawn(state))?;
             } else {
                 text.extend_from_slice(word(words, drawn(state) % 16))?;
@@ -87,8 +82,8 @@ pub fn random_texts<K: Total>(
 }
 
 fn put(bytes: &mut [u8], place: usize, value: u8) {
-    if place < bytes.len() {
-        bytes[place] = value;
+    if let Some(byte) = bytes.get_mut(place) {
+        *byte = value;
     }
 }
 

@@ -1,4 +1,4 @@
-use Rattle.std.proofs.Common.{◌≡◌, rules, sym, ap, ◌∙◌}
+use Rattle.std.proofs.Common.{◌≡◌, rules, ap, ◌∙◌}
 use Rattle.std.specs.Option.{option_map}
 use Rattle.reading.specs.Parts.{fields}
 use Rattle.reading.proofs.PlaceFacts.{value_under}
