@@ -7,7 +7,7 @@ use std::io::Read;
 fn run(rt: &HostRuntime) -> anyhow::Result<()> {
     let mut input = Vec::new(rt.alloc());
     rt.stdin().read_to_end(&mut input)?;
-    run_script(rt, input.as_slice())
+    run_script(rt, &input)
 }
 
 fn main(rt: HostRuntime) -> anyhow::Result<()> {

@@ -2,6 +2,7 @@
 #![tactic(auto)]
 
 use scripts::run_script;
+use std::io::Write;
 
 fn run_named(rt: &HostRuntime, name: &str, script: &[u8]) -> anyhow::Result<()> {
     println!(rt; "== {name}")?;
@@ -90,12 +91,11 @@ fn long_take(rt: &HostRuntime, days: usize) -> anyhow::Result<()> {
     let mut script = Vec::new(rt.alloc());
     script.extend_from_slice(b"paper rows 1000\ntake 1002\nday,cents\n")?;
     for day in 1..=days {
-        let line = format!(in rt.alloc(); "{day},1\n")?;
-        script.extend_from_slice(line.as_bytes())?;
+        writeln!(script, "{day},1")?;
     }
     script.extend_from_slice(b"\ndays\nlist\n")?;
     println!(rt; "== {days} days")?;
-    run_script(rt, script.as_slice())
+    run_script(rt, &script)
 }
 
 fn run(rt: &HostRuntime) -> anyhow::Result<()> {
