@@ -1,9 +1,9 @@
 -- A written record, read back.
-use Rattle.std.proofs.Common.{◌≡◌, ℕ, ◌+◌, ◌*◌, ◌^◌, ◌<◌, ◌≤◌, Bool, true, false, cond, ltb, leb, List, [], ◌∷◌, ◌++◌, map, length, take, drop, ℤ, pos, negsuc, nat_abs, Some, None, Ok, Option, Result, sym, refl, ap, ◌∙◌, arith}
+use Rattle.std.proofs.Common.{◌≡◌, ℕ, ◌+◌, ◌*◌, ◌^◌, ◌<◌, ◌≤◌, Bool, true, false, cond, leb, List, [], ◌∷◌, ◌++◌, map, length, take, drop, ℤ, pos, negsuc, nat_abs, Some, None, Ok, Option, Result, sym, refl, ap, ◌∙◌, arith}
 use lib.Signed.{mag}
 use Rattle.std.proofs.lemmas.Fmt.{length-decimal-le, length_signed_le}
 use Rattle.std.proofs.lemmas.List.{length-append, take_at}
-use Rattle.std.proofs.lemmas.Bool.{and_parts, and_from, eq-eqb, le-ltb, le-leb, leb-true, ltb-true, ltb-false}
+use Rattle.std.proofs.lemmas.Bool.{and_parts, and_from, eq-eqb, le-ltb, le-leb, leb-true, ltb-true}
 use Rattle.std.specs.Fmt.{signed_decimal}
 use Rattle.std.specs.Option.{ok_or}
 use Rattle.kinds.specs.Columns.{Arity, one, two, Each, All, Columns, times, within, fits64}
@@ -172,9 +172,9 @@ module _ (K : Kind) (L : Lawful K) (apart : twins K.arity K.names ≡ false) whe
       rw (apart, le-ltb 40000 (length (trace_text K xs)) short, good, le-ltb room (length xs) r) refl
 
 -- the same of the bytes in the buffer
-pub written_back : (K : Kind) → Lawful K → twins K.arity K.names ≡ false → (xs : List (Of K)) (before after : List ℕ) (r : Option ℕ) → ltb 1000 (length xs) ≡ false → None ≡ not_entered K 1 xs → Writes 0 (trace_text K xs) before after r → ReadsBack K xs after (ok_or r OutputTooShort)
+pub written_back : (K : Kind) → Lawful K → twins K.arity K.names ≡ false → (xs : List (Of K)) (before after : List ℕ) (r : Option ℕ) → length xs ≤ 1000 → None ≡ not_entered K 1 xs → Writes 0 (trace_text K xs) before after r → ReadsBack K xs after (ok_or r OutputTooShort)
 written_back K L apart xs before after (Some bytes) few entered w =
     let size : length (trace_text K xs) ≡ bytes = omega (arith, w.1) in
     let taken : take bytes after ≡ trace_text K xs = ap (take bytes) w.0 ∙ take_at (trace_text K xs) (drop (0 + length (trace_text K xs)) before) bytes size in
-    λ room fits. ap (read_text K room) taken ∙ text_back K L apart xs room (ltb-false 1000 (length xs) few) (sym entered) fits
+    λ room fits. ap (read_text K room) taken ∙ text_back K L apart xs room few (sym entered) fits
 written_back K L apart xs before after None few entered w = tt

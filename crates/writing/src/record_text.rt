@@ -1,5 +1,5 @@
 // Writing a record as a trace text.
-ghost use Rattle.std.specs.Prelude.{◌≡◌, ℕ, ◌+◌, ◌^◌, ◌<◌, ◌≤◌, false, List, ◌++◌, map, length, nat_lt};
+ghost use Rattle.std.specs.Prelude.{◌≡◌, ℕ, ◌+◌, ◌^◌, ◌<◌, ◌≤◌, false, List, ◌++◌, map, length};
 ghost use Rattle.figures.specs.Headings.{letters, twins};
 ghost use Rattle.writing.specs.Fields.{fields};
 ghost use Rattle.writing.specs.Laws.{ReadsBack, TextsAgree};
@@ -112,15 +112,9 @@ fn put_record<K: Total>(totals: &[K], out: &mut [u8]) -> Option<usize>
     Some(put_days(totals, named, out).end().length())
 }
 
-fn too_many_days<K: Total>(totals: &[K]) -> bool
-    ensures { result ≡ nat_lt 1000 (length (map K.Total.columns totals.now)) }
-{
-    totals.len() > MOST_DAYS
-}
-
 // Writes a record of at most 1,000 days.
 fn write_days<K: Total>(totals: &[K], out: &mut [u8]) -> Result<usize, Refusal>
-    requires { (nat_lt 1000 (length (map K.Total.columns totals.now)) ≡ false) × (twins K.Total.kind.arity K.Total.kind.names ≡ false) }
+    requires { (length totals.now ≤ 1000) × (twins K.Total.kind.arity K.Total.kind.names ≡ false) }
     ensures back { ReadsBack K.Total.kind (map K.Total.columns totals.now) out.new result }
     ensures text { WritesRecord out.old out.new (unless_day (not_entered K.Total.kind 1 (map K.Total.columns totals.now)) (in_room (length out.old) (trace_text K.Total.kind (map K.Total.columns totals.now)))) result }
 {
@@ -139,7 +133,7 @@ pub fn write_trace<K: Total>(totals: &[K], out: &mut [u8]) -> Result<usize, Refu
     if twin_names::<K>() {
         return Err(Refusal::WrongNames);
     }
-    if too_many_days(totals) {
+    if totals.len() > MOST_DAYS {
         return Err(Refusal::TooManyDays);
     }
     write_days(totals, out)
