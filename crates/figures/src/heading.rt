@@ -2,7 +2,7 @@
 ghost use Rattle.std.specs.Prelude.{◌≡◌, Some, None};
 ghost use Rattle.figures.specs.Headings.{letters, first, second, heading, heading_if, twins};
 
-use kinds::Total;
+use kinds::{Name, Total};
 
 #[derive(Clone, Copy, Debug, PartialEq, Eq)]
 pub enum Heading {
@@ -38,35 +38,30 @@ impl Heading {
     }
 }
 
-// Codes of column names.
-pub const NO_COLUMN: u8 = 0;
+// What stands over a column of this name.
+impl From<Name> for Heading {
+    ghost from_gives = { λ x y. y ≡ heading x };
 
-const CENTS: u8 = 1;
+    fn from(name: Name) -> Heading {
+        match name {
+            Name::Cents => Heading::Cents,
+            Name::Pieces => Heading::Pieces,
+        }
+    }
+}
 
-// The name of the kind's first column.
+// The name of the kind's first column. Every kind has one.
 pub fn first_column<K: Total>() -> Heading
     ensures { result ≡ heading (first K.Total.kind.arity K.Total.kind.names) }
 {
-    let code = K::name(1);
-    if code == CENTS {
-        Heading::Cents
-    } else {
-        Heading::Pieces
-    }
+    Heading::from(K::name(1).unwrap())
 }
 
 // The name of the kind's second column, if it has one.
 pub fn second_column<K: Total>() -> Option<Heading>
     ensures { result ≡ heading_if (second K.Total.kind.arity K.Total.kind.names) }
 {
-    let code = K::name(2);
-    if code == NO_COLUMN {
-        None
-    } else if code == CENTS {
-        Some(Heading::Cents)
-    } else {
-        Some(Heading::Pieces)
-    }
+    Some(Heading::from(K::name(2)?))
 }
 
 // Whether the kind's two columns have one name.

@@ -7,4 +7,4 @@ mod figure;
 mod heading;
 
 pub use figure::{figures_agree, read_figure};
-pub use heading::{Heading, NO_COLUMN, first_column, second_column, twin_names};
+pub use heading::{Heading, first_column, second_column, twin_names};

@@ -9,7 +9,7 @@ ghost use Rattle.refusals.specs.Faults.{at_figure, at_day, line_found, OnLine};
 
 use crate::fields::{count_fields, field_of_line, start_under};
 use crate::walk::Fields;
-use figures::{Heading, NO_COLUMN, first_column, read_figure, second_column};
+use figures::{Heading, first_column, read_figure, second_column};
 use kinds::Total;
 use refusals::{FieldFault, LineFault};
 
@@ -127,10 +127,9 @@ fn total_of<K: Total>(first: i64, second: i64) -> Option<K>
     ensures { Gives K.Total.kind K.Total.columns (filled K.Total.kind.arity first second) result }
 {
     let total = K::zero().replace(1, first)?;
-    if K::name(2) == NO_COLUMN {
-        Some(total)
-    } else {
-        total.replace(2, second)
+    match K::name(2) {
+        Some(_) => total.replace(2, second),
+        None => Some(total),
     }
 }
 

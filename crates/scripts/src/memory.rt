@@ -1,9 +1,7 @@
 // What the lent memory holds, a line a slot.
-ghost use Rattle.std.specs.Prelude.{◌<◌};
-
 use crate::answers::Columns;
 use kinds::Total;
-use shelves::Row;
+use shelves::{Row, slot_size};
 use std::{fmt, io};
 
 pub fn print_rows<K: Total>(rt: &HostRuntime, rows: &[Row<K>]) -> io::Result<()> {
@@ -29,20 +27,9 @@ impl fmt::Display for Figures<'_> {
     }
 }
 
-// How many bytes a slot of the kind has.
-fn slot_bytes<K: Total>() -> usize
-    ensures { 0 < result }
-{
-    if K::zero().column(2).is_some() {
-        24
-    } else {
-        16
-    }
-}
-
 // The bytes of each slot on a line, then those past the slots.
 pub fn print_bytes<K: Total>(rt: &HostRuntime, bytes: &[u8]) -> io::Result<()> {
-    for slot in bytes.chunks(slot_bytes::<K>()) {
+    for slot in bytes.chunks(slot_size::<K>()) {
         println!(rt; "{}", Figures(slot))?;
     }
     Ok(())

@@ -1,5 +1,8 @@
-use Rattle.figures.proofs.HeadingFacts.{twins_from_codes}
+use Rattle.std.proofs.Common.{refl}
+use Rattle.figures.proofs.HeadingFacts.{twins_by_name}
 use Rattle.figures.proofs.heading.twin_names.Goals as goal
 
 pub returns : goal.returns
-returns g c = rw (c.name.ensures, c.name-2.ensures) (twins_from_codes g.K.Total.kind.arity g.K.Total.kind.names)
+returns g c =
+    rw (c.eq.ensures, c.name.ensures, c.name-2.ensures)
+    (twins_by_name _ refl refl refl refl g.K.Total.kind.arity g.K.Total.kind.names)
