@@ -2,6 +2,7 @@
 #![tactic(auto)]
 
 mod byte;
+mod digits;
 mod figure;
 mod heading;
 

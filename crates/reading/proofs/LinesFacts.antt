@@ -1,11 +1,11 @@
 -- Lemmas on the lines of a trace text.
-use Rattle.std.proofs.Common.{◌≡◌, ℕ, ◌+◌, ◌<◌, ◌≤◌, true, false, cond, List, [], ◌∷◌, ◌++◌, map, length, take, drop, set, Some, None, Ok, Err, Option, Result, sym, refl, ap, ◌∙◌, subst, arith}
+use Rattle.std.proofs.Common.{◌≡◌, ℕ, ◌+◌, ◌<◌, ◌≤◌, true, false, cond, List, [], ◌∷◌, ◌++◌, map, length, take, drop, set, is_ok, Some, None, Ok, Err, Option, Result, sym, refl, ap, ◌∙◌, subst, arith}
 use Rattle.std.proofs.lemmas.Bool.{lt-ltb, le-ltb}
 use Rattle.std.proofs.lemmas.List.{append-nil, append_assoc, length_push, length-set, take_more_set, map_push, drop-set-lt, drop-drop}
 use Rattle.kinds.specs.Kinds.{Kind, Of}
 use Rattle.refusals.specs.declared.fault.LineFault.{LineFault}
 use Rattle.refusals.specs.declared.fault.FieldFault.{FieldFault}
-use Rattle.refusals.specs.Faults.{Finding, at_line, at_name, line_found}
+use Rattle.refusals.specs.Faults.{Finding, at_name, line_found}
 use Rattle.reading.specs.Parts.{fields, lines}
 use Rattle.reading.specs.Traces.{none, push, onto, refuse, read_line, read_lines, read_all, bad_name, all_among, trace_names, told, counted, within_room, Midway, LinesRead, Reads}
 use Rattle.reading.proofs.PartFacts.{parts_some}
@@ -75,8 +75,8 @@ module _ {V : Type 0} (K : Kind) (columns : V → Of K) where
       midway_stop before after reading ahead days (line_found f) (subst (λ (x : Result (List (Of K)) Finding). Midway K columns before after reading x days) here m)
 
 -- a names line without a fault
-pub names_good : (K : Kind) (text names values : List ℕ) (r : Result (Unit {0}) FieldFault) (x : Unit {0}) → lines text ≡ names ∷ lines values → r ≡ at_name (bad_name (trace_names K) (fields names) 0 (fields names)) → at_line 1 r ≡ Ok x → all_among (trace_names K) (fields names) ≡ true → read_all K (lines text) ≡ read_lines K (fields names) 1 (length names + 1) (lines values)
-names_good K text names values r x cut checked was all =
+pub names_good : (K : Kind) (text names values : List ℕ) (r : Result (Unit {0}) FieldFault) → lines text ≡ names ∷ lines values → r ≡ at_name (bad_name (trace_names K) (fields names) 0 (fields names)) → true ≡ is_ok r → all_among (trace_names K) (fields names) ≡ true → read_all K (lines text) ≡ read_lines K (fields names) 1 (length names + 1) (lines values)
+names_good K text names values r cut checked right all =
     ap (read_all K) cut ∙ go (bad_name (trace_names K) (fields names) 0 (fields names)) refl
   where
     go : (o : Option ℕ) → o ≡ bad_name (trace_names K) (fields names) 0 (fields names) → read_all K (names ∷ lines values) ≡ read_lines K (fields names) 1 (length names + 1) (lines values)

@@ -1,12 +1,15 @@
 -- Lemmas on one of several parts, and on the leftmost that fails a test.
-use Rattle.std.proofs.Common.{◌≡◌, ℕ, zero, suc, ◌+◌, ◌<◌, ◌≤◌, Bool, true, false, cond, ◌||◌, eqb, List, [], ◌∷◌, ◌++◌, length, get_or, Some, None, Option, sym, refl, ap, ◌∙◌, subst, inl, inr, arith}
+use Rattle.std.proofs.Common.{◌≡◌, ℕ, zero, suc, ◌+◌, ◌<◌, ◌≤◌, Bool, true, false, cond, ◌&&◌, ◌||◌, eqb, ◌⊎◌, List, [], ◌∷◌, ◌++◌, length, get_or, is_some, Some, None, Option, sym, refl, ap, ◌∙◌, subst, inl, inr, arith}
 use Rattle.std.proofs.lemmas.Slice.Eq.{bytes_eq-Decides}
-use Rattle.std.proofs.lemmas.Bool.{cases_Bool, both_ways, or_cases, or_left, or_right, false≢true}
+use Rattle.std.proofs.lemmas.Bool.{cases_Bool, both_ways, and_right, or_cases, or_left, or_right, eq-eqb, ne_eqb, false≢true}
 use Rattle.std.specs.List.{ContainsAt as Has}
 use Rattle.std.specs.Str.{bytes_eq}
-use Rattle.reading.specs.Parts.{parts, longer, start_under}
+use Rattle.std.specs.Option.{option_map}
+use Rattle.reading.specs.Parts.{parts, longer, under, start_under}
+use Rattle.reading.specs.Places.{placed, placed_under}
 use Rattle.reading.specs.Refused.{spread, PartOf}
-use Rattle.reading.specs.Traces.{among}
+use Rattle.figures.specs.Figures.{figure}
+use Rattle.reading.specs.Traces.{among, bad_name, malformed}
 use Rattle.reading.proofs.PartFacts.{parts_some}
 
 -- the first part, and a part behind it
@@ -171,3 +174,146 @@ starts_earlier at n (b ∷ bs) after h =
           let m = more l in
           rw k (omega arith)
     ]
+
+-- the value of a field that is told with its byte
+pub value_under : (at : ℕ) (names values : List (List ℕ)) (name : List ℕ) → option_map (λ p. p.1) (placed_under at names values name) ≡ under names values name
+value_under at [] values name = refl
+value_under at (n ∷ names) [] name = refl
+value_under at (n ∷ names) (v ∷ values) name =
+    let more = value_under (at + length v + 1) names values name in
+    elim (cases_Bool (bytes_eq n name)) [ inl e ↦ rw e refl | inr e ↦ rw e more ]
+
+-- the same of names and values that are told with their bytes
+abbrev pub pair_under : List (ℕ × List ℕ) → List (ℕ × List ℕ) → List ℕ → Option (ℕ × List ℕ)
+pair_under [] values name = None
+pair_under (n ∷ names) [] name = None
+pair_under (n ∷ names) (v ∷ values) name = cond (bytes_eq n.1 name) (Some v) (pair_under names values name)
+
+pub pair_placed : (from at : ℕ) (names values : List (List ℕ)) (name : List ℕ) → pair_under (placed from names) (placed at values) name ≡ placed_under at names values name
+pair_placed from at [] values name = refl
+pair_placed from at (n ∷ names) [] name = refl
+pair_placed from at (n ∷ names) (v ∷ values) name =
+    let more = pair_placed (from + length n + 1) (at + length v + 1) names values name in
+    elim (cases_Bool (bytes_eq n name)) [ inl e ↦ rw e refl | inr e ↦ rw e more ]
+
+pub pair_none : (xs ys : List (ℕ × List ℕ)) (name : List ℕ) (o : Option (ℕ × List ℕ)) → (xs ≡ []) ⊎ (ys ≡ []) → pair_under xs ys name ≡ o → None ≡ o
+pair_none xs ys name o (inl e) h = rw e at h
+pair_none [] ys name o (inr e) h = h
+pair_none (x ∷ xs) ys name o (inr e) h = rw e at h
+
+pub pair_step : (xs ys us vs : List (ℕ × List ℕ)) (n v : ℕ × List ℕ) (name : List ℕ) (o : Option (ℕ × List ℕ)) → xs ≡ n ∷ us → ys ≡ v ∷ vs → pair_under xs ys name ≡ o → cond (bytes_eq n.1 name) (Some v) (pair_under us vs name) ≡ o
+pair_step xs ys us vs n v name o e f h = rw (e, f) at h
+
+-- the byte of the value
+abbrev pub start_in : ℕ → Option (ℕ × List ℕ) → ℕ
+start_in at None = 0
+start_in at (Some p) = at + p.0
+
+pub start_placed : (at from : ℕ) (names values : List (List ℕ)) (name : List ℕ) → start_in at (placed_under from names values name) ≡ start_under (at + from) names values name
+start_placed at from [] values name = refl
+start_placed at from (n ∷ names) [] name = refl
+start_placed at from (n ∷ names) (v ∷ values) name =
+    let more = start_placed at (from + length v + 1) names values name in
+    let e : at + (from + length v + 1) ≡ at + from + length v + 1 = omega arith in
+    elim (cases_Bool (bytes_eq n name)) [ inl k ↦ rw k refl | inr k ↦ rw k (more ∙ ap (λ m. start_under m names values name) e) ]
+
+pub start_found : (at : ℕ) (names values : List (List ℕ)) (name : List ℕ) → start_in at (placed_under 0 names values name) ≡ start_under at names values name
+start_found at names values name =
+    let e : at + 0 ≡ at = omega arith in
+    start_placed at 0 names values name ∙ ap (λ m. start_under m names values name) e
+
+-- it lies within the bytes
+pub placed_within : (from : ℕ) (names values : List (List ℕ)) (name : List ℕ) (p : ℕ × List ℕ) → placed_under from names values name ≡ Some p → p.0 + 1 ≤ from + spread values
+placed_within from [] values name p h = absurd (let z : ◌≡◌ {A = ℕ} 0 1 = cc in omega arith)
+placed_within from (n ∷ names) [] name p h = absurd (let z : ◌≡◌ {A = ℕ} 0 1 = cc in omega arith)
+placed_within from (n ∷ names) (v ∷ values) name p h = go (bytes_eq n name) h (placed_within (from + length v + 1) names values name p)
+  where
+    go : (t : Bool) → cond t (Some (from, v)) (placed_under (from + length v + 1) names values name) ≡ Some p → (placed_under (from + length v + 1) names values name ≡ Some p → p.0 + 1 ≤ from + length v + 1 + spread values) → p.0 + 1 ≤ from + spread (v ∷ values)
+    go true k more = let e : 0 + from ≡ 0 + p.0 = ap (λ (q : Option (ℕ × List ℕ)). start_in 0 q) k in omega arith
+    go false k more = let l = more k in omega arith
+
+pub start_within : (names : List (List ℕ)) (values name : List ℕ) (p : ℕ × List ℕ) → placed_under 0 names (parts 44 values) name ≡ Some p → p.0 ≤ length values
+start_within names values name p h =
+    let l = placed_within 0 names (parts 44 values) name p h in
+    let s = spread_parts 44 values in
+    omega arith
+
+pub under_among : (from : ℕ) (ns : List (List ℕ)) (name : List ℕ) → is_some (placed_under from ns ns name) ≡ among name ns
+under_among from [] name = refl
+under_among from (n ∷ ns) name =
+    let more = under_among (from + length n + 1) ns name in
+    rw (same_either_way name n) (elim (cases_Bool (bytes_eq n name)) [ inl e ↦ rw e refl | inr e ↦ rw e more ])
+
+pub mapped_some : {A B : Type 0} (f : A → B) (o : Option A) → is_some o ≡ is_some (option_map f o)
+mapped_some f None = refl
+mapped_some f (Some a) = refl
+
+-- the places of fields lie within their line
+abbrev pub Within : ℕ → List (ℕ × List ℕ) → Type 0
+Within most [] = Unit {0}
+Within most (p ∷ ps) = (p.0 ≤ most) × Within most ps
+
+all_within : (most at : ℕ) (ps : List (List ℕ)) → at + spread ps ≤ most + 1 → Within most (placed at ps)
+all_within most at [] h = tt
+all_within most at (p ∷ ps) h = (omega arith, all_within most (at + length p + 1) ps (omega arith))
+
+pub fields_within : (line : List ℕ) → Within (length line) (placed 0 (parts 44 line))
+fields_within line = let s = spread_parts 44 line in all_within (length line) 0 (parts 44 line) (omega arith)
+
+-- the first of the placed fields that is no figure
+abbrev pub malformed_in : ℕ → List (ℕ × List ℕ) → Option ℕ
+malformed_in at [] = None
+malformed_in at (p ∷ ps) = cond (is_some (figure p.1)) (malformed_in at ps) (Some (at + p.0))
+
+pub malformed_placed : (at from : ℕ) (vs : List (List ℕ)) → malformed_in at (placed from vs) ≡ malformed (at + from) vs
+malformed_placed at from [] = refl
+malformed_placed at from (v ∷ vs) =
+    let e : at + (from + length v + 1) ≡ at + from + length v + 1 = omega arith in
+    ap (λ o. cond (is_some (figure v)) o (Some (at + from))) (malformed_placed at (from + length v + 1) vs ∙ ap (λ m. malformed m vs) e)
+
+pub malformed_start : (at : ℕ) (vs : List (List ℕ)) → malformed_in at (placed 0 vs) ≡ malformed at vs
+malformed_start at vs = let e : at + 0 ≡ at = omega arith in malformed_placed at 0 vs ∙ ap (λ m. malformed m vs) e
+
+-- the first of the placed names that is unknown or not the first of its name
+abbrev pub bad_in : List (List ℕ) → List (List ℕ) → List (ℕ × List ℕ) → Option ℕ
+bad_in known line [] = None
+bad_in known line (p ∷ ps) = cond (among p.1 known && eqb (start_under 0 line line p.1) p.0) (bad_in known line ps) (Some p.0)
+
+pub bad_placed : (known line : List (List ℕ)) (from : ℕ) (ns : List (List ℕ)) → bad_in known line (placed from ns) ≡ bad_name known line from ns
+bad_placed known line from [] = refl
+bad_placed known line from (n ∷ ns) =
+    ap (λ o. cond (among n known && eqb (start_under 0 line line n) from) o (Some from)) (bad_placed known line (from + length n + 1) ns)
+
+module _ (known line : List (List ℕ)) (xs us : List (ℕ × List ℕ)) (p : ℕ × List ℕ) (o : Option ℕ) (e : xs ≡ p ∷ us) (h : bad_in known line xs ≡ o) where
+  bad_first : cond (among p.1 known && eqb (start_under 0 line line p.1) p.0) (bad_in known line us) (Some p.0) ≡ o
+  bad_first = rw e at h
+
+  -- a name that is right, and one that is not
+  pub bad_later : among p.1 known ≡ true → start_under 0 line line p.1 ≡ p.0 → bad_in known line us ≡ o
+  bad_later a f = rw (a, eq-eqb (start_under 0 line line p.1) p.0 f) at bad_first
+
+  pub bad_unknown : among p.1 known ≡ false → Some p.0 ≡ o
+  bad_unknown a = rw a at bad_first
+
+  pub bad_repeated : (start_under 0 line line p.1 ≡ p.0 → ⊥) → Some p.0 ≡ o
+  bad_repeated n = rw (and_right (among p.1 known) (eqb (start_under 0 line line p.1) p.0) (ne_eqb (start_under 0 line line p.1) p.0 n)) at bad_first
+
+pub bad_none : (known line : List (List ℕ)) (xs : List (ℕ × List ℕ)) (o : Option ℕ) → xs ≡ [] → bad_in known line xs ≡ o → None ≡ o
+bad_none known line xs o e h = rw e at h
+
+module _ (at : ℕ) (xs us : List (ℕ × List ℕ)) (p : ℕ × List ℕ) (o : Option ℕ) (e : xs ≡ p ∷ us) where
+  malformed_first : malformed_in at xs ≡ o → cond (is_some (figure p.1)) (malformed_in at us) (Some (at + p.0)) ≡ o
+  malformed_first h = rw e at h
+
+  -- a field that is a figure, and one that is none
+  pub malformed_later : malformed_in at xs ≡ o → is_some (figure p.1) ≡ true → malformed_in at us ≡ o
+  malformed_later h f = let k = malformed_first h in rw f at k
+
+  pub malformed_here : malformed_in at xs ≡ o → is_some (figure p.1) ≡ false → Some (at + p.0) ≡ o
+  malformed_here h f = let k = malformed_first h in rw f at k
+
+pub within_first : (most : ℕ) (xs us : List (ℕ × List ℕ)) (p : ℕ × List ℕ) → xs ≡ p ∷ us → Within most xs → (p.0 ≤ most) × Within most us
+within_first most xs us p e h = rw e at h
+
+pub malformed_none : (at : ℕ) (xs : List (ℕ × List ℕ)) (o : Option ℕ) → xs ≡ [] → malformed_in at xs ≡ o → None ≡ o
+malformed_none at xs o e h = rw e at h

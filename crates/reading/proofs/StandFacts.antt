@@ -1,38 +1,20 @@
 -- Every line and every field stands in its text at the byte where it is said to start.
-use Rattle.std.proofs.Common.{◌≡◌, ℕ, suc, ◌<◌, false, eqb, List, [], ◌∷◌, ◌++◌, length, sym, refl, ap, ◌∙◌, inl, inr, arith}
+use Rattle.std.proofs.Common.{◌≡◌, ℕ, suc, false, eqb, List, [], ◌∷◌, ◌++◌, length, sym, refl, ap, ◌∙◌, inl, inr, arith}
 use Rattle.std.proofs.lemmas.List.{append-nil, append_assoc, length-append}
-use Rattle.std.proofs.lemmas.Bool.{cases_Bool, eqb-true, ltb-false, le-ltb}
-use Rattle.std.specs.List.{AllByRecursion}
+use Rattle.std.proofs.lemmas.Bool.{cases_Bool, ltb-false, le-ltb}
+use Rattle.std.specs.List.{AllByRecursion, join_with_byte}
+use Rattle.std.proofs.lemmas.List.Splits.{join_with_byte-slice_split}
 use Rattle.reading.specs.Parts.{parts, longer, reach, holds}
 use Rattle.reading.specs.Refused.{spread, PartOf, Stands}
-use Rattle.reading.proofs.PartFacts.{parts_some}
+use Rattle.reading.proofs.PartFacts.{parts_split}
 use Rattle.reading.proofs.PlaceFacts.{no_part, each_part}
 
--- parts with a c between them
-abbrev joined : ℕ → List (List ℕ) → List ℕ
-joined c [] = []
-joined c (p ∷ []) = p
-joined c (p ∷ q ∷ qs) = p ++ (c ∷ joined c (q ∷ qs))
+pub joined_parts : (c : ℕ) (bs : List ℕ) → join_with_byte c (parts c bs) ≡ bs
+joined_parts c bs = sym (ap (join_with_byte c) (parts_split c bs)) ∙ join_with_byte-slice_split c bs
 
-pub joined_parts : (c : ℕ) (bs : List ℕ) → joined c (parts c bs) ≡ bs
-joined_parts c [] = refl
-joined_parts c (b ∷ bs) =
-    let h = joined_parts c bs in
-    let l = parts_some c bs in
-    elim (cases_Bool (eqb b c)) [ inl e ↦ rw e (cut (parts c bs) l h (eqb-true b c e)) | inr e ↦ rw e (more (parts c bs) l h) ]
-  where
-    cut : (ps : List (List ℕ)) → 0 < length ps → joined c ps ≡ bs → b ≡ c → joined c ([] ∷ ps) ≡ b ∷ bs
-    cut [] l h e = absurd (omega arith)
-    cut (p ∷ ps) l h e = ap (λ xs. c ∷ xs) h ∙ ap (λ x. x ∷ bs) (sym e)
-
-    more : (ps : List (List ℕ)) → 0 < length ps → joined c ps ≡ bs → joined c (longer b ps) ≡ b ∷ bs
-    more [] l h = absurd (omega arith)
-    more (p ∷ []) l h = ap (λ xs. b ∷ xs) h
-    more (p ∷ q ∷ qs) l h = ap (λ xs. b ∷ xs) h
-
-stand_joined : (c : ℕ) (before : List (List ℕ)) (part : List ℕ) (after : List (List ℕ)) → (front : List ℕ) × (back : List ℕ) × (joined c (before ++ (part ∷ after)) ≡ front ++ (part ++ back)) × (length front ≡ spread before)
+stand_joined : (c : ℕ) (before : List (List ℕ)) (part : List ℕ) (after : List (List ℕ)) → (front : List ℕ) × (back : List ℕ) × (join_with_byte c (before ++ (part ∷ after)) ≡ front ++ (part ++ back)) × (length front ≡ spread before)
 stand_joined c [] part [] = ([], [], sym (append-nil part), refl)
-stand_joined c [] part (q ∷ qs) = ([], c ∷ joined c (q ∷ qs), refl, refl)
+stand_joined c [] part (q ∷ qs) = ([], c ∷ join_with_byte c (q ∷ qs), refl, refl)
 stand_joined c (b ∷ []) part after =
     let m = stand_joined c [] part after in
     let l = m.3 in (
@@ -74,7 +56,7 @@ part_stands c bytes p =
     record {
       front = m.0;
       back = m.1;
-      bytes_are = sym (joined_parts c bytes) ∙ (ap (joined c) p.are ∙ m.2);
+      bytes_are = sym (joined_parts c bytes) ∙ (ap (join_with_byte c) p.are ∙ m.2);
       start = m.3;
       alone = of_all (λ x. holds c x ≡ false) (parts c bytes) (parts_alone c bytes) p;
     }

@@ -1,17 +1,9 @@
 -- Lemmas on trace texts.
-use Rattle.std.proofs.Common.{◌≡◌, ℕ, ◌+◌, Bool, true, false, cond, List, length, ℤ, pos, Some, None, Ok, Err, Option, Result, refl, ap, ◌∙◌, subst, inl, inr, arith}
-use Rattle.std.proofs.lemmas.Bool.{cases_Bool, both_ways, eq-eqb}
-use Rattle.refusals.specs.Table.{number}
+use Rattle.std.proofs.Common.{◌≡◌, ℕ, Bool, true, false, ℤ, pos, Some, None, Option, refl, ap, ◌∙◌, subst, inl, inr, arith}
+use Rattle.std.proofs.lemmas.Bool.{cases_Bool, both_ways}
 use Rattle.kinds.specs.Columns.{Arity, one, two, Each, Columns, nought, replaced, column}
 use Rattle.kinds.specs.Kinds.{Name, cents, pieces, code, code_of, Kind, Of, Lawful, Gives, GivesIf}
-use Rattle.figures.specs.declared.heading.Heading.TheVariants.{Day}
-use Rattle.refusals.specs.declared.fault.FaultAtLine.{FaultAtLine}
-use Rattle.refusals.specs.declared.fault.FieldFault.{FieldFault}
-use Rattle.refusals.specs.declared.fault.FieldFault.TheVariants.{BadFigure, BadDay}
-use Rattle.refusals.specs.Faults.{Finding, at_line, at_figure, at_day, field_refusal, field_byte}
-use Rattle.figures.specs.Headings.{letters}
-use Rattle.reading.specs.Parts.{start_under}
-use Rattle.reading.specs.Traces.{filled, number_under, is_day, malformed, refuse, unless_at, then, check_line}
+use Rattle.reading.specs.Traces.{filled}
 
 pub replaced_first : (a : Arity) (x : ℤ) → replaced a (nought a) 1 x ≡ Some (filled a x (pos 0))
 replaced_first one x = refl
@@ -48,22 +40,3 @@ module _ (K : Kind) (L : Lawful K) {V : Type 0} (columns : V → Of K) where
 
   pub none_put : (x y : ℤ) → Gives K columns (filled K.arity x (pos 0)) None → Gives K columns (filled K.arity x y) None
   none_put x y h = none_filled K.arity K.has L.zeroed x y h
-
--- a fault that the checks of a line's fields found
-checked_broke : (o : Option ℕ) (right : Bool) (byte line : ℕ) (f : FaultAtLine) (r : Result (Unit {0}) Finding) → Err f ≡ at_line line (then (at_figure o) (at_day right byte)) → Err (record { number = number (field_refusal f.fault); line = f.line; byte = field_byte f.fault }) ≡ unless_at 11 line o (cond right r (refuse 13 line byte))
-checked_broke None true byte line f r e = absurd (let z : ◌≡◌ {A = ℕ} 0 1 = cc in omega arith)
-checked_broke None false byte line f r e =
-    let k : f ≡ record { line = line; fault = BadDay byte } = cc in
-    ap (λ (x : FaultAtLine). Err (record { number = number (field_refusal x.fault); line = x.line; byte = field_byte x.fault })) k
-checked_broke (Some at) right byte line f r e =
-    let k : f ≡ record { line = line; fault = BadFigure at } = cc in
-    ap (λ (x : FaultAtLine). Err (record { number = number (field_refusal x.fault); line = x.line; byte = field_byte x.fault })) k
-
-pub line_broke_at : (names values : List (List ℕ)) (day at : ℕ) → length values ≡ length names → (f : FaultAtLine) → Err f ≡ at_line (day + 1) (then (at_figure (malformed at values)) (at_day (is_day day (number_under names values (letters Day))) (start_under at names values (letters Day)))) → Err (record { number = number (field_refusal f.fault); line = f.line; byte = field_byte f.fault }) ≡ check_line names day at values
-line_broke_at names values day at count f e =
-    rw (eq-eqb (length values) (length names) count) (checked_broke (malformed at values) (is_day day (number_under names values (letters Day))) (start_under at names values (letters Day)) (day + 1) f _ e)
-
--- the line that was added to a fault
-pub line_kept : {X : Type 0} (r : Result X FieldFault) (line : ℕ) (f : FaultAtLine) → Err f ≡ at_line line r → f.line ≡ line
-line_kept (Ok x) line f e = absurd (let z : ◌≡◌ {A = ℕ} 0 1 = cc in omega arith)
-line_kept (Err fault) line f e = let k : f ≡ record { line = line; fault = fault } = cc in ap (λ (x : FaultAtLine). x.line) k

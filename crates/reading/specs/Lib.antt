@@ -1,4 +1,5 @@
 pub mod Parts
+pub mod Places
 pub mod Traces
 pub mod Accepted
 pub mod Refused

@@ -7,84 +7,117 @@ ghost use Rattle.reading.specs.Parts.{fields, start_under};
 ghost use Rattle.reading.specs.Traces.{malformed, number_under, number_if, is_day, filled, entered, check_line, then, read_line, told, Placed};
 ghost use Rattle.refusals.specs.Faults.{at_figure, at_day, line_found, OnLine};
 
-use crate::fields::{COMMA, count_fields, cut, field_of_line, start_under};
+use crate::fields::{count_fields, field_of_line, start_under};
+use crate::walk::Fields;
 use figures::{Heading, NO_COLUMN, first_column, read_figure, second_column};
 use kinds::Total;
-use refusals::{FieldFault, LineFault, on_line};
+use refusals::{FieldFault, LineFault};
 
 const MOST_DAYS: usize = 1000;
 
-// That each field of the line is a figure, or else the leftmost that is none.
-fn check_figures(line: &[u8], at: usize) -> Result<(), FieldFault>
-    requires { at + length line.now < 2 ^ 63 }
-    ensures { result ≡ at_figure (malformed at (fields line.now)) }
-{
-    let mut at = at;
-    let mut left = line;
-    loop {
-        let (this, more) = cut(left, COMMA);
-        if read_figure(this).is_none() {
-            return Err(FieldFault::BadFigure { byte: at });
-        }
-        let Some(next) = more else {
-            return Ok(());
+// The line of a day under the names line, and the byte of the text at which it starts.
+#[derive(Clone, Copy)]
+pub(crate) struct DayLine<'t> {
+    pub names: &'t [u8],
+    pub values: &'t [u8],
+    pub day: usize,
+    pub start: usize,
+    ghost fits: { start + length values.now < 2 ^ 63 },
+    ghost counts: { day < 2 ^ 63 },
+}
+
+impl<'t> DayLine<'t> {
+    // The total on the line.
+    pub(crate) fn read<K: Total>(&self) -> Result<K, LineFault>
+        ensures answer { told K.Total.columns line_found result ≡ read_line K.Total.kind (fields self.now.names.now) self.now.day self.now.start (fields self.now.values.now) }
+        ensures place { Placed result }
+    {
+        self.check()?;
+        let bad = LineFault::BadTotal {
+            line: self.day + 1,
+            byte: self.start,
+            day: self.day,
         };
-        at += this.len() + 1;
-        left = next;
+        enter(self.first_number::<K>(), self.second_number::<K>(), bad)
     }
-}
 
-// The number under a name, 0 where there is none.
-fn number_under(names: &[u8], values: &[u8], name: &[u8]) -> i64
-    ensures { result ≡ number_under (fields names.now) (fields values.now) name.now }
-{
-    match field_of_line(names, values, name) {
-        Some(bytes) => match read_figure(bytes) {
-            Some(number) => number,
-            None => 0,
-        },
-        None => 0,
-    }
-}
-
-// That the line is that of the day, or else where its day stands.
-fn check_day(names: &[u8], line: &[u8], day: usize, at: usize) -> Result<(), FieldFault>
-    requires { (at + length line.now < 2 ^ 63) × (day < 2 ^ 63) }
-    ensures { result ≡ at_day (is_day day (number_under (fields names.now) (fields line.now) (letters Day))) (start_under at (fields names.now) (fields line.now) (letters Day)) }
-{
-    let name = Heading::Day.letters();
-    if number_under(names, line, name) == day as i64 {
+    // That it has the right count of fields, all figures, and is that of the day, one of 1,000.
+    fn check(&self) -> Result<(), LineFault>
+        ensures answer { told (λ x. x) line_found result ≡ check_line (fields self.now.names.now) self.now.day self.now.start (fields self.now.values.now) }
+        ensures place { Placed result }
+    {
+        let line = self.day + 1;
+        let byte = self.start;
+        if count_fields(self.values) != count_fields(self.names) {
+            return Err(LineFault::BadCount { line, byte });
+        }
+        self.check_fields().map_err(|fault| fault.on_line(line))?;
+        if self.day > MOST_DAYS {
+            return Err(LineFault::BeyondDays { line, byte });
+        }
         Ok(())
-    } else {
-        Err(FieldFault::BadDay {
-            byte: start_under(at, names, line, name),
-        })
     }
-}
 
-// That each field is a figure, and then that the line is that of the day.
-fn check_fields(names: &[u8], line: &[u8], day: usize, at: usize) -> Result<(), FieldFault>
-    requires { (at + length line.now < 2 ^ 63) × (day < 2 ^ 63) }
-    ensures { result ≡ then (at_figure (malformed at (fields line.now))) (at_day (is_day day (number_under (fields names.now) (fields line.now) (letters Day))) (start_under at (fields names.now) (fields line.now) (letters Day))) }
-{
-    check_figures(line, at)?;
-    check_day(names, line, day, at)
-}
+    // That each field is a figure, and then that the line is that of the day.
+    fn check_fields(&self) -> Result<(), FieldFault>
+        ensures { result ≡ then (at_figure (malformed self.now.start (fields self.now.values.now))) (at_day (is_day self.now.day (number_under (fields self.now.names.now) (fields self.now.values.now) (letters Day))) (start_under self.now.start (fields self.now.names.now) (fields self.now.values.now) (letters Day))) }
+    {
+        self.check_figures()?;
+        self.check_day()
+    }
 
-// The number under the name of the kind's first column.
-fn first_number<K: Total>(names: &[u8], line: &[u8]) -> i64
-    ensures { result ≡ number_under (fields names.now) (fields line.now) (letters (heading (first_of K.Total.kind.arity K.Total.kind.names))) }
-{
-    number_under(names, line, first_column::<K>().letters())
-}
+    // That each field is a figure, or else the leftmost that is none.
+    fn check_figures(&self) -> Result<(), FieldFault>
+        ensures { result ≡ at_figure (malformed self.now.start (fields self.now.values.now)) }
+    {
+        for (start, field) in Fields::of(self.values) {
+            if read_figure(field).is_none() {
+                return Err(FieldFault::BadFigure {
+                    byte: self.start + start,
+                });
+            }
+        }
+        Ok(())
+    }
 
-// The number under the name of its second column, 0 where it has none.
-fn second_number<K: Total>(names: &[u8], line: &[u8]) -> i64
-    ensures { result ≡ number_if (fields names.now) (fields line.now) (heading_if (second_of K.Total.kind.arity K.Total.kind.names)) }
-{
-    match second_column::<K>() {
-        Some(name) => number_under(names, line, name.letters()),
-        None => 0,
+    // That the line is that of the day, or else where its day stands.
+    fn check_day(&self) -> Result<(), FieldFault>
+        ensures { result ≡ at_day (is_day self.now.day (number_under (fields self.now.names.now) (fields self.now.values.now) (letters Day))) (start_under self.now.start (fields self.now.names.now) (fields self.now.values.now) (letters Day)) }
+    {
+        let name = Heading::Day.letters();
+        if self.number_under(name) == self.day as i64 {
+            Ok(())
+        } else {
+            Err(FieldFault::BadDay {
+                byte: start_under(self.start, self.names, self.values, name),
+            })
+        }
+    }
+
+    // The number under a name, 0 where there is none.
+    fn number_under(&self, name: &[u8]) -> i64
+        ensures { result ≡ number_under (fields self.now.names.now) (fields self.now.values.now) name.now }
+    {
+        field_of_line(self.names, self.values, name)
+            .and_then(|field| read_figure(field))
+            .unwrap_or(0)
+    }
+
+    // The number under the name of the kind's first column.
+    fn first_number<K: Total>(&self) -> i64
+        ensures { result ≡ number_under (fields self.now.names.now) (fields self.now.values.now) (letters (heading (first_of K.Total.kind.arity K.Total.kind.names))) }
+    {
+        self.number_under(first_column::<K>().letters())
+    }
+
+    // The number under the name of its second column, 0 where it has none.
+    fn second_number<K: Total>(&self) -> i64
+        ensures { result ≡ number_if (fields self.now.names.now) (fields self.now.values.now) (heading_if (second_of K.Total.kind.arity K.Total.kind.names)) }
+    {
+        match second_column::<K>() {
+            Some(name) => self.number_under(name.letters()),
+            None => 0,
+        }
     }
 }
 
@@ -107,61 +140,7 @@ fn enter<K: Total>(first: i64, second: i64, bad: LineFault) -> Result<K, LineFau
     ensures place { OnLine bad → Placed result }
 {
     match total_of::<K>(first, second) {
-        Some(total) => {
-            if total.may_enter() {
-                Ok(total)
-            } else {
-                Err(bad)
-            }
-        }
-        None => Err(bad),
+        Some(total) if total.may_enter() => Ok(total),
+        _ => Err(bad),
     }
-}
-
-// That the line has the right count of fields, all figures, and is that of the day, one of 1,000.
-fn check_line(names: &[u8], line: &[u8], day: usize, at: usize) -> Result<(), LineFault>
-    requires { (at + length line.now < 2 ^ 63) × (day < 2 ^ 63) }
-    ensures answer { told (λ x. x) line_found result ≡ check_line (fields names.now) day at (fields line.now) }
-    ensures place { Placed result }
-{
-    let number = day + 1;
-    if count_fields(line) != count_fields(names) {
-        return Err(LineFault::BadCount {
-            line: number,
-            byte: at,
-        });
-    }
-    on_line(check_fields(names, line, day, at), number)?;
-    if day > MOST_DAYS {
-        return Err(LineFault::BeyondDays {
-            line: number,
-            byte: at,
-        });
-    }
-    Ok(())
-}
-
-// The total on the line of a day, which starts at byte `at` of the text.
-pub(crate) fn read_line<K: Total>(
-    names: &[u8],
-    line: &[u8],
-    day: usize,
-    at: usize,
-) -> Result<K, LineFault>
-    requires { (at + length line.now < 2 ^ 63) × (day < 2 ^ 63) }
-    ensures answer { told K.Total.columns line_found result ≡ read_line K.Total.kind (fields names.now) day at (fields line.now) }
-    ensures place { Placed result }
-{
-    check_line(names, line, day, at)?;
-    let first = first_number::<K>(names, line);
-    let second = second_number::<K>(names, line);
-    enter(
-        first,
-        second,
-        LineFault::BadTotal {
-            line: day + 1,
-            byte: at,
-            day,
-        },
-    )
 }

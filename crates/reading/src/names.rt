@@ -4,7 +4,8 @@ ghost use Rattle.reading.specs.Parts.{fields};
 ghost use Rattle.reading.specs.Traces.{among, all_among, trace_names, bad_name};
 ghost use Rattle.refusals.specs.Faults.{at_name};
 
-use crate::fields::{COMMA, cut, same, start_under};
+use crate::fields::{find_under, start_under};
+use crate::walk::Fields;
 use figures::{Heading, first_column, second_column};
 use kinds::Total;
 use refusals::FieldFault;
@@ -13,16 +14,9 @@ use refusals::FieldFault;
 fn known<K: Total>(name: &[u8]) -> bool
     ensures { result ≡ among name.now (trace_names K.Total.kind) }
 {
-    if same(name, Heading::Day.letters()) {
-        return true;
-    }
-    if same(name, first_column::<K>().letters()) {
-        return true;
-    }
-    match second_column::<K>() {
-        Some(second) => same(name, second.letters()),
-        None => false,
-    }
+    name == Heading::Day.letters()
+        || name == first_column::<K>().letters()
+        || second_column::<K>().is_some_and(|second| name == second.letters())
 }
 
 // That each name of the line is known and not repeated, or else the leftmost that is not so.
@@ -30,52 +24,25 @@ pub(crate) fn check_names<K: Total>(names: &[u8]) -> Result<(), FieldFault>
     requires { length names.now < 2 ^ 63 }
     ensures { result ≡ at_name (bad_name (trace_names K.Total.kind) (fields names.now) 0 (fields names.now)) }
 {
-    let mut at = 0;
-    let mut left = names;
-    loop {
-        let (this, more) = cut(left, COMMA);
-        if !known::<K>(this) {
-            return Err(FieldFault::BadName { byte: at });
+    for (byte, name) in Fields::of(names) {
+        if !known::<K>(name) || start_under(0, names, names, name) != byte {
+            return Err(FieldFault::BadName { byte });
         }
-        if start_under(0, names, names, this) != at {
-            return Err(FieldFault::BadName { byte: at });
-        }
-        let Some(next) = more else {
-            return Ok(());
-        };
-        at += this.len() + 1;
-        left = next;
     }
+    Ok(())
 }
 
 fn named(names: &[u8], name: &[u8]) -> bool
     ensures { result ≡ among name.now (fields names.now) }
 {
-    let mut left = names;
-    loop {
-        let (this, more) = cut(left, COMMA);
-        if same(name, this) {
-            return true;
-        }
-        let Some(next) = more else {
-            return false;
-        };
-        left = next;
-    }
+    find_under(names, names, name).is_some()
 }
 
 // Whether each name of the kind's trace texts stands in the line.
 pub(crate) fn all_named<K: Total>(names: &[u8]) -> bool
     ensures { result ≡ all_among (trace_names K.Total.kind) (fields names.now) }
 {
-    if !named(names, Heading::Day.letters()) {
-        return false;
-    }
-    if !named(names, first_column::<K>().letters()) {
-        return false;
-    }
-    match second_column::<K>() {
-        Some(second) => named(names, second.letters()),
-        None => true,
-    }
+    named(names, Heading::Day.letters())
+        && named(names, first_column::<K>().letters())
+        && second_column::<K>().is_none_or(|second| named(names, second.letters()))
 }

@@ -7,11 +7,11 @@ ghost use Rattle.refusals.specs.Faults.{line_found, found};
 ghost use Rattle.reading.specs.Traces.{read_lines, read_all, read_text, within_room, counted, told, OfReading, Placed, NamesSplit, Reads, ReadsLines};
 
 use crate::fields::{LINE_FEED, cut};
-use crate::line::read_line;
+use crate::line::DayLine;
 use crate::names::{all_named, check_names};
 use figures::twin_names;
 use kinds::Total;
-use refusals::{FieldFault, FileFault, LineFault, Refusal, on_line};
+use refusals::{FieldFault, FileFault, LineFault, Refusal};
 
 const MOST_BYTES: usize = 40_000;
 
@@ -44,7 +44,7 @@ fn read_values<K: Total>(
     loop {
         let (line, more) = cut(left, LINE_FEED);
         let Some(next) = more else {
-            if line.len() == 0 {
+            if line.is_empty() {
                 return Ok(days);
             }
             return Err(LineFault::BadCount {
@@ -52,7 +52,13 @@ fn read_values<K: Total>(
                 byte: at,
             });
         };
-        let total = read_line::<K>(names, line, days + 1, at)?;
+        let day_line = DayLine {
+            names,
+            values: line,
+            day: days + 1,
+            start: at,
+        };
+        let total = day_line.read::<K>()?;
         keep(totals, days, total);
         days += 1;
         at += line.len() + 1;
@@ -77,7 +83,7 @@ fn split_names<K: Total>(text: &[u8]) -> Result<(&[u8], &[u8]), LineFault>
     ensures place { Placed result }
 {
     let (names, more) = cut(text, LINE_FEED);
-    on_line(check_names::<K>(names), NAMES_LINE)?;
+    check_names::<K>(names).map_err(|fault| fault.on_line(NAMES_LINE))?;
     let missing = LineFault::InField {
         line: NAMES_LINE,
         fault: FieldFault::BadName { byte: names.len() },

@@ -9,8 +9,6 @@ use Rattle.refusals.specs.declared.fault.FieldFault.TheVariants.{BadName, BadFig
 use Rattle.refusals.specs.declared.fault.FaultAtLine.{FaultAtLine}
 use Rattle.refusals.specs.declared.fault.LineFault.{LineFault}
 use Rattle.refusals.specs.declared.fault.LineFault.TheVariants.{InField, BadCount, BeyondDays, BadTotal}
-use Rattle.refusals.specs.declared.fault.NotTaken.{NotTaken}
-use Rattle.refusals.specs.declared.fault.NotWritten.{NotWritten}
 use Rattle.refusals.specs.declared.fault.FileFault.{FileFault}
 use Rattle.refusals.specs.declared.fault.FileFault.TheVariants.{Reading, ReadingWhole, Taking, Writing}
 
@@ -85,18 +83,9 @@ InReading (Writing refusal) = ⊥
 abbrev pub ToldApart : Type 0
 ToldApart = (f g : FileFault) → InReading f → InReading g → found f ≡ found g → f ≡ g
 
--- a result with its fault carried up
-abbrev pub at_line : {X : Type 0} → ℕ → Result X FieldFault → Result X FaultAtLine
-at_line line (Ok x) = Ok x
-at_line line (Err fault) = Err (record { line = line; fault = fault })
-
-abbrev pub in_taking : {X : Type 0} → Result X Refusal → Result X NotTaken
-in_taking (Ok x) = Ok x
-in_taking (Err refusal) = Err (record { refusal = refusal })
-
-abbrev pub in_writing : {X : Type 0} → Result X Refusal → Result X NotWritten
-in_writing (Ok x) = Ok x
-in_writing (Err refusal) = Err (record { refusal = refusal })
+-- a field's fault with its line
+abbrev pub at_line : ℕ → FieldFault → FaultAtLine
+at_line line fault = record { line = line; fault = fault }
 
 -- a name or a figure that is wrong at a byte, if there is one
 abbrev pub at_name : Option ℕ → Result (Unit {0}) FieldFault

@@ -1,14 +1,14 @@
 // What is wrong with a text: a field's fault goes whole into the line's, and that into the file's.
 ghost use Rattle.std.specs.Prelude.{◌≡◌};
 ghost use Rattle.refusals.specs.Table.{number};
-ghost use Rattle.refusals.specs.declared.fault.FileFault.TheVariants.{Reading, Taking, Writing};
+ghost use Rattle.refusals.specs.declared.fault.FileFault.TheVariants.{Reading};
 ghost use Rattle.refusals.specs.declared.fault.LineFault.TheVariants.{InField};
-ghost use Rattle.refusals.specs.Faults.{at_line, in_taking, in_writing, field_refusal, field_byte, line_refusal, line_place, refusal_of, place_of, ToldApart};
+ghost use Rattle.refusals.specs.Faults.{at_line, field_refusal, field_byte, line_refusal, line_place, refusal_of, place_of, ToldApart};
 
 use crate::refusal::{Place, Refusal};
 
 // What is wrong at a field, and the byte of the text where it stands.
-#[derive(Clone, Copy)]
+#[derive(Clone, Copy, Debug, PartialEq, Eq)]
 pub enum FieldFault {
     // a name unknown or repeated; where one is missing, or the line feed, the end of the line
     BadName { byte: usize },
@@ -18,14 +18,14 @@ pub enum FieldFault {
 }
 
 // A field's fault with its line, on its way into a line's fault.
-#[derive(Clone, Copy)]
+#[derive(Clone, Copy, Debug, PartialEq, Eq)]
 pub struct FaultAtLine {
     pub line: usize,
     pub fault: FieldFault,
 }
 
 // What is wrong with a line, counted from 1; a fault of the line as a whole stands at its first byte.
-#[derive(Clone, Copy)]
+#[derive(Clone, Copy, Debug, PartialEq, Eq)]
 pub enum LineFault {
     InField {
         line: usize,
@@ -49,20 +49,9 @@ pub enum LineFault {
     },
 }
 
-// A refusal of a call that takes a record, and of one that writes a text, on their way into a file's fault.
-#[derive(Clone, Copy)]
-pub struct NotTaken {
-    pub refusal: Refusal,
-}
-
-#[derive(Clone, Copy)]
-pub struct NotWritten {
-    pub refusal: Refusal,
-}
-
 // What went wrong with a file: in reading a line of it, in reading it as a whole, in taking its
 // record or in writing.
-#[derive(Clone, Copy)]
+#[derive(Clone, Copy, Debug, PartialEq, Eq)]
 pub enum FileFault {
     Reading(LineFault),
     ReadingWhole(Refusal),
@@ -89,60 +78,21 @@ impl From<LineFault> for FileFault {
     }
 }
 
-impl From<NotTaken> for FileFault {
-    ghost from_gives = { λ x y. y ≡ Taking x.refusal };
-
-    fn from(value: NotTaken) -> FileFault {
-        FileFault::Taking(value.refusal)
-    }
-}
-
-impl From<NotWritten> for FileFault {
-    ghost from_gives = { λ x y. y ≡ Writing x.refusal };
-
-    fn from(value: NotWritten) -> FileFault {
-        FileFault::Writing(value.refusal)
-    }
-}
-
-// A field's fault with its line added.
-pub fn on_line<T>(res: Result<T, FieldFault>, line: usize) -> Result<T, FaultAtLine>
-    ensures { result ≡ at_line line res }
-{
-    match res {
-        Ok(value) => Ok(value),
-        Err(fault) => Err(FaultAtLine { line, fault }),
-    }
-}
-
-// A refusal met in taking a record.
-pub fn in_taking<T>(res: Result<T, Refusal>) -> Result<T, NotTaken>
-    ensures { result ≡ in_taking res }
-{
-    match res {
-        Ok(value) => Ok(value),
-        Err(refusal) => Err(NotTaken { refusal }),
-    }
-}
-
-// A refusal met in writing.
-pub fn in_writing<T>(res: Result<T, Refusal>) -> Result<T, NotWritten>
-    ensures { result ≡ in_writing res }
-{
-    match res {
-        Ok(value) => Ok(value),
-        Err(refusal) => Err(NotWritten { refusal }),
-    }
-}
-
 impl FieldFault {
+    // The fault with its line added.
+    pub fn on_line(self, line: usize) -> FaultAtLine
+        ensures { result ≡ at_line line self }
+    {
+        FaultAtLine { line, fault: self }
+    }
+
     fn refusal(self) -> Refusal
         ensures { result ≡ field_refusal self }
     {
         match self {
-            FieldFault::BadName { byte: _ } => Refusal::WrongNames,
-            FieldFault::BadFigure { byte: _ } => Refusal::MalformedFigure,
-            FieldFault::BadDay { byte: _ } => Refusal::DayOutOfTurn,
+            FieldFault::BadName { .. } => Refusal::WrongNames,
+            FieldFault::BadFigure { .. } => Refusal::MalformedFigure,
+            FieldFault::BadDay { .. } => Refusal::DayOutOfTurn,
         }
     }
 
@@ -150,9 +100,9 @@ impl FieldFault {
         ensures { result ≡ field_byte self }
     {
         match self {
-            FieldFault::BadName { byte } => byte,
-            FieldFault::BadFigure { byte } => byte,
-            FieldFault::BadDay { byte } => byte,
+            FieldFault::BadName { byte }
+            | FieldFault::BadFigure { byte }
+            | FieldFault::BadDay { byte } => byte,
         }
     }
 }
@@ -162,14 +112,10 @@ impl LineFault {
         ensures { result ≡ line_refusal self }
     {
         match self {
-            LineFault::InField { line: _, fault } => fault.refusal(),
-            LineFault::BadCount { line: _, byte: _ } => Refusal::WrongFields,
-            LineFault::BeyondDays { line: _, byte: _ } => Refusal::TooManyDays,
-            LineFault::BadTotal {
-                line: _,
-                byte: _,
-                day,
-            } => Refusal::MayNotEnter { day },
+            LineFault::InField { fault, .. } => fault.refusal(),
+            LineFault::BadCount { .. } => Refusal::WrongFields,
+            LineFault::BeyondDays { .. } => Refusal::TooManyDays,
+            LineFault::BadTotal { day, .. } => Refusal::MayNotEnter { day },
         }
     }
 
@@ -181,9 +127,9 @@ impl LineFault {
                 line,
                 byte: fault.byte(),
             },
-            LineFault::BadCount { line, byte } => Place { line, byte },
-            LineFault::BeyondDays { line, byte } => Place { line, byte },
-            LineFault::BadTotal { line, byte, day: _ } => Place { line, byte },
+            LineFault::BadCount { line, byte }
+            | LineFault::BeyondDays { line, byte }
+            | LineFault::BadTotal { line, byte, .. } => Place { line, byte },
         }
     }
 }
@@ -195,9 +141,9 @@ impl FileFault {
     {
         match self {
             FileFault::Reading(fault) => fault.refusal(),
-            FileFault::ReadingWhole(refusal) => refusal,
-            FileFault::Taking(refusal) => refusal,
-            FileFault::Writing(refusal) => refusal,
+            FileFault::ReadingWhole(refusal)
+            | FileFault::Taking(refusal)
+            | FileFault::Writing(refusal) => refusal,
         }
     }
 
@@ -214,9 +160,7 @@ impl FileFault {
     {
         match self {
             FileFault::Reading(fault) => fault.place(),
-            FileFault::ReadingWhole(_) => NOWHERE,
-            FileFault::Taking(_) => NOWHERE,
-            FileFault::Writing(_) => NOWHERE,
+            FileFault::ReadingWhole(_) | FileFault::Taking(_) | FileFault::Writing(_) => NOWHERE,
         }
     }
 }

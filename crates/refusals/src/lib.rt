@@ -4,8 +4,5 @@
 mod fault;
 mod refusal;
 
-pub use fault::{
-    FaultAtLine, FieldFault, FileFault, LineFault, NotTaken, NotWritten, faults_told_apart,
-    in_taking, in_writing, on_line,
-};
+pub use fault::{FaultAtLine, FieldFault, FileFault, LineFault, faults_told_apart};
 pub use refusal::{Place, Refusal};

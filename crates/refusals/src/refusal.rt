@@ -2,7 +2,7 @@ ghost use Rattle.std.specs.Prelude.{◌≡◌};
 ghost use Rattle.refusals.specs.Table.{number, day};
 
 // Each case is the only ground for its number.
-#[derive(Clone, Copy)]
+#[derive(Clone, Copy, Debug, PartialEq, Eq)]
 pub enum Refusal {
     // a record or a text of more than 1,000 days
     TooManyDays,
@@ -36,7 +36,7 @@ pub enum Refusal {
 
 // Where in a text: the line, counted from 1, and the byte, counted from 0 over the whole text.
 // A refusal that has no place has line 0, byte 0.
-#[derive(Clone, Copy)]
+#[derive(Clone, Copy, Debug, PartialEq, Eq)]
 pub struct Place {
     pub line: usize,
     pub byte: usize,
@@ -49,7 +49,7 @@ impl Refusal {
     {
         match self {
             Refusal::TooManyDays => 1,
-            Refusal::MayNotEnter { day: _ } => 2,
+            Refusal::MayNotEnter { .. } => 2,
             Refusal::WorkTooShort => 3,
             Refusal::ShelfTooSmall => 4,
             Refusal::WidthsOutOfRange => 5,

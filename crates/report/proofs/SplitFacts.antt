@@ -1,7 +1,10 @@
 -- From a record that was read to the text of its pulses.
-use Rattle.std.proofs.Common.{◌≡◌, ℕ, ◌≤◌, false, List, [], ◌∷◌, length, Ok, Err, Result, sym, refl, ap, ◌∙◌, subst, inl, arith}
+use Rattle.std.proofs.Common.{◌≡◌, ℕ, ◌≤◌, true, false, List, [], ◌∷◌, length, is_ok, IsErrAnd, MatchResult, Some, None, Ok, Err, Result, sym, refl, ap, ◌∙◌, subst, inl, arith}
+use Rattle.std.proofs.lemmas.Bool.{true≢false}
 use Rattle.kinds.specs.Kinds.{Kind}
 use Rattle.refusals.specs.declared.refusal.Refusal.{Refusal}
+use Rattle.refusals.specs.Table.{number}
+use Rattle.writer.specs.Written.{Writes}
 use Rattle.transform.specs.Windows.{Record}
 use Rattle.transform.specs.Pulses.{pulses}
 use Rattle.sheets.specs.declared.sheet.Stop.{Stop}
@@ -11,33 +14,13 @@ use Rattle.sheets.specs.Takes.{State}
 use Rattle.sheets.specs.Calls.{taking}
 use Rattle.sheets.specs.History.{Calls, Shows}
 use Rattle.refusals.specs.declared.fault.FileFault.{FileFault}
-use Rattle.refusals.specs.declared.fault.FileFault.TheVariants.{Writing}
-use Rattle.refusals.specs.declared.fault.NotTaken.{NotTaken}
-use Rattle.refusals.specs.declared.fault.NotWritten.{NotWritten}
-use Rattle.refusals.specs.Faults.{in_taking, in_writing}
+use Rattle.refusals.specs.declared.fault.FileFault.TheVariants.{Reading, ReadingWhole, Taking, Writing}
 use Rattle.reading.specs.Traces.{read_text}
 use Rattle.report.specs.PulseTexts.{pulse_text, sheet_text, TextWritten}
-use Rattle.report.specs.Reports.{told, report_as, Reported, refusal_in, RecordTaken, TextDue, OfWriting, PulsesWritten}
+use Rattle.report.specs.Reports.{told, report_as, Reported, refusal_in, RecordTaken, SplitWritten, PulsesWritten, OfReport}
 use Rattle.report.proofs.ReadFacts.{Fair, Fit, text_fair}
 use Rattle.report.proofs.ShortFacts.{only_14}
 use Rattle.report.proofs.TakeFacts.{accepted, taken_text}
-
--- the results behind those that carry a fault up
-pub taken_ok : (x : Result ℕ Refusal) (n : ℕ) → in_taking x ≡ Ok n → x ≡ Ok n
-taken_ok (Ok m) n e = cc
-taken_ok (Err r) n e = cc
-
-pub taken_err : (x : Result ℕ Refusal) (f : NotTaken) → in_taking x ≡ Err f → x ≡ Err f.refusal
-taken_err (Ok m) f e = cc
-taken_err (Err r) f e = let h : record { refusal = r } ≡ f = cc in ap (λ g. Err g.refusal) h
-
-pub written_ok : (x : Result ℕ Refusal) (n : ℕ) → in_writing x ≡ Ok n → x ≡ Ok n
-written_ok (Ok m) n e = cc
-written_ok (Err r) n e = cc
-
-pub written_err : (x : Result ℕ Refusal) (f : NotWritten) → in_writing x ≡ Err f → x ≡ Err f.refusal
-written_err (Ok m) f e = cc
-written_err (Err r) f e = let h : record { refusal = r } ≡ f = cc in ap (λ g. Err g.refusal) h
 
 -- a call that was stopped
 write_stop : (K : Kind) (s : State) (before after : List ℕ) (stop : Stop) → ((h : Calls K) × Shows K h s) → TextWritten K s before after (Err stop) → Reported (sheet_text K s) before after (Err (refusal_in stop))
@@ -48,31 +31,23 @@ pub write_told : (K : Kind) (s : State) (before after : List ℕ) (r : Result �
 write_told K s before after (Ok n) q H T o e = subst (Reported (sheet_text K s) before after) (sym (o n refl)) T
 write_told K s before after (Err stop) q H T o e = subst (Reported (sheet_text K s) before after) (sym (e stop refl)) (write_stop K s before after stop H T)
 
--- a record that is accepted is taken, and the history goes on
-module _ (K : Kind) (xs : Record K) (entries : ℕ) (before after : State) (x : Result ℕ Refusal) (T : RecordTaken K xs entries before after x) where
-  pub taken_never : (f : NotTaken) → Accepted K xs entries (length before.slots) → Err f ≡ in_taking x → ⊥
-  taken_never f A e = A f.refusal (subst (RecordTaken K xs entries before after) (taken_err x f (sym e)) T)
+-- a record that is taken: the history goes on, and the text of the sheet is that of its pulses
+module _ (K : Kind) (xs : Record K) (entries : ℕ) (before after : State) where
+  pub taken_on : (x : Result ℕ Refusal) → RecordTaken K xs entries before after x → true ≡ is_ok x → Shows K [] before → (h : Calls K) × Shows K h after
+  taken_on (Ok n) T e S = (taking xs entries ∷ [], T.1 [] S)
+  taken_on (Err r) T e S = absurd (true≢false e)
 
-  taken_well : (n : ℕ) → Ok n ≡ in_taking x → RecordTaken K xs entries before after (Ok n)
-  taken_well n e = subst (RecordTaken K xs entries before after) (taken_ok x n (sym e)) T
+  due : (x : Result ℕ Refusal) → RecordTaken K xs entries before after x → true ≡ is_ok x → sheet_text K after ≡ pulse_text K (λ p. false) (pulses K xs)
+  due (Ok n) T e = taken_text K xs before after T.0
+  due (Err r) T e = absurd (true≢false e)
 
-  pub taken_on : (n : ℕ) → Ok n ≡ in_taking x → Shows K [] before → (h : Calls K) × Shows K h after
-  taken_on n e S = (taking xs entries ∷ [], (taken_well n e).1 [] S)
+  written : (out end : List ℕ) (y : Result ℕ Refusal) → Reported (pulse_text K (λ p. false) (pulses K xs)) out end y → (r : Result ℕ FileFault) → MatchResult y (λ n. r ≡ Ok n) (λ e. IsErrAnd r (λ f. f ≡ Writing e)) → SplitWritten K xs entries (length before.slots) out end r
+  written out end (Ok n) R r m = rw m R
+  written out end (Err e) R (Ok n) m = absurd m
+  written out end (Err e) R (Err f) m = rw m (only_14 e R.0, R.1)
 
-  -- the text of the sheet is that of the record's pulses
-  due : (n : ℕ) → Ok n ≡ in_taking x → (out end : List ℕ) (y : Result ℕ Refusal) → Reported (sheet_text K after) out end y → Reported (pulse_text K (λ p. false) (pulses K xs)) out end y
-  due n e out end y R = subst (λ bs. Reported bs out end y) (taken_text K xs before after (taken_well n e).0) R
-
-  pub due_ok : (n : ℕ) → Ok n ≡ in_taking x → (out end : List ℕ) (y : Result ℕ Refusal) (m : ℕ) → Reported (sheet_text K after) out end y → Ok m ≡ in_writing y →
-      TextDue (pulse_text K (λ p. false) (pulses K xs)) out end (Ok m)
-  due_ok n e out end y m R f = subst (Reported (pulse_text K (λ p. false) (pulses K xs)) out end) (written_ok y m (sym f)) (due n e out end y R)
-
-  pub due_err : (n : ℕ) → Ok n ≡ in_taking x → (out end : List ℕ) (y : Result ℕ Refusal) (w : NotWritten) → Reported (sheet_text K after) out end y → Err w ≡ in_writing y →
-      TextDue (pulse_text K (λ p. false) (pulses K xs)) out end (Err (Writing w.refusal))
-  due_err n e out end y w R f = subst (Reported (pulse_text K (λ p. false) (pulses K xs)) out end) (written_err y w (sym f)) (due n e out end y R)
-
-  pub due_fault : (bytes out end : List ℕ) (y : Result ℕ Refusal) (w : NotWritten) → Reported bytes out end y → Err w ≡ in_writing y → OfWriting (Err (Writing w.refusal))
-  due_fault bytes out end y w R f = ap Writing (only_14 w.refusal (subst (Reported bytes out end) (written_err y w (sym f)) R).0)
+  pub split_written : (x : Result ℕ Refusal) → RecordTaken K xs entries before after x → true ≡ is_ok x → (out end : List ℕ) (y : Result ℕ Refusal) → Reported (sheet_text K after) out end y → (r : Result ℕ FileFault) → MatchResult y (λ n. r ≡ Ok n) (λ e. IsErrAnd r (λ f. f ≡ Writing e)) → SplitWritten K xs entries (length before.slots) out end r
+  split_written x T e out end y R = written out end y (subst (λ bs. Reported bs out end y) (due x T e) R)
 
 -- a record that was read
 module _ (K : Kind) (text : List ℕ) (room : ℕ) (xs : Record K) (full : room ≡ 1000) (read : read_text K room text ≡ Ok xs) where
@@ -82,13 +57,16 @@ module _ (K : Kind) (text : List ℕ) (room : ℕ) (xs : Record K) (full : room 
   fit : Fit K 1000 xs
   fit = subst (Fair 40002 (Fit K 1000)) read_full (text_fair K 1000 text)
 
-  pub not_refused : (entries capacity : ℕ) → 1002 ≤ entries → 1000 ≤ capacity → Accepted K xs entries capacity
+  not_refused : (entries capacity : ℕ) → 1002 ≤ entries → 1000 ≤ capacity → Accepted K xs entries capacity
   not_refused entries capacity e c = let (l, w) = fit in accepted K xs entries capacity l w (omega arith) (omega arith)
 
   text_is : pulse_text K (λ p. false) (pulses K xs) ≡ report_as K text
   unfolding report_as
   text_is = sym (ap (told K) read_full)
 
-  pub pulses_written : (out end : List ℕ) (r : Result ℕ FileFault) → TextDue (pulse_text K (λ p. false) (pulses K xs)) out end r → PulsesWritten K text out end r
-  pulses_written out end (Ok n) w = subst (λ bs. TextDue bs out end (Ok n)) text_is w
-  pulses_written out end (Err fault) w = inl (subst (λ bs. TextDue bs out end (Err fault)) text_is w)
+  pub pulses_written : (entries capacity : ℕ) → 1002 ≤ entries → 1000 ≤ capacity → (out end : List ℕ) (r : Result ℕ FileFault) → SplitWritten K xs entries capacity out end r → PulsesWritten K text out end r × OfReport r
+  pulses_written entries capacity e c out end (Ok n) w = (subst (λ bs. Writes 0 bs out end (Some n)) text_is w, tt)
+  pulses_written entries capacity e c out end (Err (Taking r)) w = absurd (not_refused entries capacity e c r w.0)
+  pulses_written entries capacity e c out end (Err (Writing r)) w = (inl (ap number w.0, subst (λ bs. Writes 0 bs out end None) text_is w.1), inl (ap Writing w.0))
+  pulses_written entries capacity e c out end (Err (Reading fault)) w = absurd w
+  pulses_written entries capacity e c out end (Err (ReadingWhole r)) w = absurd w

@@ -14,7 +14,7 @@ use Rattle.sheets.specs.Takes.{State, Taken}
 use Rattle.sheets.specs.Calls.{taking}
 use Rattle.sheets.specs.History.{Calls, Shows}
 use Rattle.refusals.specs.declared.fault.FileFault.{FileFault}
-use Rattle.refusals.specs.declared.fault.FileFault.TheVariants.{Writing}
+use Rattle.refusals.specs.declared.fault.FileFault.TheVariants.{Reading, ReadingWhole, Taking, Writing}
 use Rattle.figures.specs.declared.heading.Heading.TheVariants.{Pieces}
 use Rattle.refusals.specs.Faults.{Finding, found, refusal_of, place_of, InReading}
 use Rattle.figures.specs.Headings.{letters}
@@ -76,15 +76,15 @@ RecordTaken K xs entries before after (Ok n) =
     Taken K xs before after × ((h : Calls K) → Shows K h before → Shows K (taking xs entries ∷ h) after)
 RecordTaken K xs entries before after (Err r) = Ground K xs entries (length before.slots) r
 
--- bytes that are due are written, or the buffer is too short for them
-abbrev pub TextDue : List ℕ → List ℕ → List ℕ → Result ℕ FileFault → Type 0
-TextDue bytes before after (Ok n) = Writes 0 bytes before after (Some n)
-TextDue bytes before after (Err fault) = (number (refusal_of fault) ≡ 14) × Writes 0 bytes before after None
-
--- the one fault of writing is that the buffer is too short
-abbrev pub OfWriting : Result ℕ FileFault → Type 0
-OfWriting (Ok n) = Unit {0}
-OfWriting (Err fault) = fault ≡ Writing OutputTooShort
+-- What comes of a record that is split and written: the text of its pulses is written; or it is
+-- refused in taking, on the refusal's ground; or in writing, where the buffer is too short for the text.
+abbrev pub SplitWritten : (K : Kind) → Record K → ℕ → ℕ → List ℕ → List ℕ → Result ℕ FileFault → Type 0
+SplitWritten K xs entries capacity before after (Ok n) = Writes 0 (pulse_text K (λ p. false) (pulses K xs)) before after (Some n)
+SplitWritten K xs entries capacity before after (Err (Taking r)) = Ground K xs entries capacity r × (after ≡ before)
+SplitWritten K xs entries capacity before after (Err (Writing r)) =
+    (r ≡ OutputTooShort) × Writes 0 (pulse_text K (λ p. false) (pulses K xs)) before after None
+SplitWritten K xs entries capacity before after (Err (Reading fault)) = ⊥
+SplitWritten K xs entries capacity before after (Err (ReadingWhole r)) = ⊥
 
 -- What comes of a text of totals of a kind before a refusal is told: its pulses are written, or the
 -- buffer is too short for them, or the text was not read.

@@ -1,18 +1,16 @@
 // The report on a text.
-ghost use Rattle.std.specs.Prelude.{◌≡◌, ◌≤◌, true, false, [], map, length, take, is_ok};
+ghost use Rattle.std.specs.Prelude.{◌≡◌, ◌≤◌, true, [], map, length, take, is_ok};
 ghost use Rattle.kinds.specs.Wholes.{paper, mobile};
-ghost use Rattle.transform.specs.Pulses.{pulses};
-ghost use Rattle.splitting.specs.Records.{Accepted};
 ghost use Rattle.sheets.specs.Takes.{state_of};
 ghost use Rattle.sheets.specs.History.{Calls, Shows};
 ghost use Rattle.reading.specs.Parts.{reach};
-ghost use Rattle.report.specs.PulseTexts.{pulse_text, sheet_text};
-ghost use Rattle.report.specs.Reports.{first_line, names_pieces, report_as, report_of, Reported, most_bytes, ReportsFit, refusal_in, RecordTaken, TextDue, PulsesWritten, FaultTold, Told, ShortAlone, OfWriting, OfReport};
+ghost use Rattle.report.specs.PulseTexts.{sheet_text};
+ghost use Rattle.report.specs.Reports.{first_line, names_pieces, report_as, report_of, Reported, most_bytes, ReportsFit, refusal_in, RecordTaken, SplitWritten, PulsesWritten, FaultTold, Told, ShortAlone, OfReport};
 
 use crate::sheet_text::write_pulses;
 use kinds::{Mobile, Paper, Total};
 use reading::{field, read_trace};
-use refusals::{FileFault, Refusal, in_taking, in_writing};
+use refusals::{FileFault, Refusal};
 use sheets::{Sheet, Stop, WorkEntry};
 use shelves::{OverRows, Row, RowShelf, Shelf};
 use writing::write_refusal;
@@ -151,13 +149,10 @@ fn split_and_write<K: Total, S: Shelf<K>>(
 ) -> Result<usize, FileFault>
     requires within { days ≤ length totals.now }
     requires begun { Shows K.kind [] (state_of S.slots S.outside sheet.old) }
-    requires accepted { Accepted K.kind (map K.columns (take days totals.now)) (length work.old) (length (state_of S.slots S.outside sheet.old).slots) }
-    ensures answer { TextDue (pulse_text K.kind (λ p. false) (pulses K.kind (map K.columns (take days totals.now)))) out.old out.new result }
-    ensures fault { OfWriting result }
+    ensures { SplitWritten K.kind (map K.columns (take days totals.now)) (length work.old) (length (state_of S.slots S.outside sheet.old).slots) out.old out.new result }
 {
-    in_taking(take_front(sheet, totals, days, work))?;
-    let bytes = in_writing(write_sheet(&*sheet, out))?;
-    Ok(bytes)
+    take_front(sheet, totals, days, work).map_err(FileFault::Taking)?;
+    write_sheet(&*sheet, out).map_err(FileFault::Writing)
 }
 
 // Takes the first days of a list as a record.

@@ -4,10 +4,7 @@
 
 pub use figures::{Heading, figures_agree, read_figure};
 pub use reading::{field, read_trace};
-pub use refusals::{
-    FaultAtLine, FieldFault, FileFault, LineFault, NotTaken, NotWritten, in_taking, in_writing,
-    on_line,
-};
+pub use refusals::{FaultAtLine, FieldFault, FileFault, LineFault};
 pub use writer::{Ended, Lines, Naming, Short, Value, Word};
 pub use writing::{
     room_behind_pulse, room_behind_pulse_names, texts_agree, write_pulse, write_pulse_names,

@@ -4,7 +4,7 @@
 use figures::read_figure;
 use kinds::{Cents, Mobile, Pair, Paper, Pieces, Total};
 use reading::{field, read_trace};
-use refusals::{FileFault, in_writing};
+use refusals::FileFault;
 use std::alloc::{AllocError, Global};
 use std::io::Write;
 use writing::write_trace;
@@ -93,7 +93,7 @@ fn reads_back<K: Total>(heap: Global, text: &[u8], totals: &[K]) -> Result<bool,
 }
 
 fn written<K: Total>(totals: &[K], out: &mut [u8]) -> Result<usize, FileFault> {
-    Ok(in_writing(write_trace(totals, out))?)
+    write_trace(totals, out).map_err(FileFault::Writing)
 }
 
 // What writing answers, with `changed` where a byte did that is to stay, and `lost` where the text

@@ -2,20 +2,19 @@ use Rattle.std.proofs.Common.{◌≡◌, map, length, take, ap, ◌∙◌, arith
 use Rattle.std.proofs.lemmas.List.{length-map}
 use Rattle.shelves.specs.Slots.{shown, shown_rows}
 use Rattle.sheets.specs.Takes.{State}
-use Rattle.report.proofs.SplitFacts.{not_refused, pulses_written}
+use Rattle.report.proofs.SplitFacts.{pulses_written}
 use Rattle.report.proofs.report.pulses_of.Goals as goal
 
-pub split_and_write-requires-clause-accepted : goal.split_and_write-requires-clause-accepted
-split_and_write-requires-clause-accepted g c =
+pub returns : goal.returns
+returns g c =
     let xs = map g.K.Total.columns (take c.in_ok-days.days c.read_trace.new.totals) in
     let capacity : length (shown_rows g.K.Total.kind g.K.Total.columns c.new-sheet.result.shelf.rows.now) ≡ length c.args.rows.now =
     ap (λ (s : State). length s.slots) c.new-sheet.ensures.answer ∙ (ap length c.over.ensures.slots ∙ length-map c.args.rows.now (shown g.K.Total.kind g.K.Total.columns)) in
-    not_refused g.K.Total.kind c.args.text.now (length c.args.totals.now) xs c.told-totals c.in_ok-days.ensures.answer.0 (length c.args.work.now)
+    let p =
+    pulses_written g.K.Total.kind c.args.text.now (length c.args.totals.now) xs c.told-totals c.in_ok-days.ensures.answer.0 (length c.args.work.now)
     (length (shown_rows g.K.Total.kind g.K.Total.columns c.new-sheet.result.shelf.rows.now))
     (omega (arith, c.told-work))
     (omega (arith, capacity, c.told-rows))
-
-pub returns-clause-answer : goal.returns-clause-answer
-returns-clause-answer g c =
-    let xs = map g.K.Total.columns (take c.in_ok-days.days c.read_trace.new.totals) in
-    pulses_written g.K.Total.kind c.args.text.now (length c.args.totals.now) xs c.told-totals c.in_ok-days.ensures.answer.0 c.args.out.now c.split_and_write.new.out c.split_and_write.result c.split_and_write.ensures.answer
+    c.args.out.now c.split_and_write.new.out c.split_and_write.result c.split_and_write.ensures
+    in
+    record { answer = p.0; fault = p.1 }
