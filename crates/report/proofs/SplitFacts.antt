@@ -1,5 +1,5 @@
 -- From a record that was read to the text of its pulses.
-use Rattle.std.proofs.Common.{◌≡◌, ℕ, ◌≤◌, true, false, List, [], ◌∷◌, length, is_ok, IsErrAnd, MatchResult, Some, None, Ok, Err, Result, sym, ap, ◌∙◌, subst, inl, arith}
+use Rattle.std.proofs.Common.{◌≡◌, ℕ, ◌≤◌, true, false, List, [], ◌∷◌, length, is_ok, IsErrAnd, MatchResult, Some, None, Ok, Err, Result, sym, refl, ap, ◌∙◌, subst, inl, arith}
 use Rattle.std.proofs.lemmas.Bool.{true≢false}
 use Rattle.kinds.specs.Kinds.{Kind}
 use Rattle.refusals.specs.declared.refusal.Refusal.{Refusal}
@@ -10,7 +10,7 @@ use Rattle.transform.specs.Pulses.{pulses}
 use Rattle.sheets.specs.declared.sheet.Stop.{Stop}
 use Rattle.sheets.specs.declared.sheet.Stop.TheVariants.{Refused, Unreachable}
 use Rattle.splitting.specs.Records.{Accepted}
-use Rattle.sheets.specs.Takes.{State, Take}
+use Rattle.sheets.specs.Takes.{State}
 use Rattle.sheets.specs.Calls.{taking}
 use Rattle.sheets.specs.History.{Calls, Shows}
 use Rattle.refusals.specs.declared.fault.FileFault.{FileFault}
@@ -23,13 +23,13 @@ use Rattle.report.proofs.ShortFacts.{only_14}
 use Rattle.report.proofs.TakeFacts.{accepted, taken_text}
 
 -- a call that was stopped
-pub take_stop : {S W : Type 0} (K : Kind) (xs : Record K) (entries : ℕ) (before after : State) (s t : S) (w v : W) (stop : Stop) → Take K xs entries before after s t w v (Err stop) → RecordTaken K xs entries before after (Err (refusal_in stop))
-take_stop K xs entries before after s t w v (Refused r) T = T.0.ground
-take_stop K xs entries before after s t w v Unreachable T = absurd T
-
-pub write_stop : (K : Kind) (s : State) (before after : List ℕ) (stop : Stop) → ((h : Calls K) × Shows K h s) → TextWritten K s before after (Err stop) → Reported (sheet_text K s) before after (Err (refusal_in stop))
+write_stop : (K : Kind) (s : State) (before after : List ℕ) (stop : Stop) → ((h : Calls K) × Shows K h s) → TextWritten K s before after (Err stop) → Reported (sheet_text K s) before after (Err (refusal_in stop))
 write_stop K s before after (Refused r) H T = T
 write_stop K s before after Unreachable (h, S) T = absurd (T h S)
+
+pub write_told : (K : Kind) (s : State) (before after : List ℕ) (r : Result ℕ Stop) (q : Result ℕ Refusal) → ((h : Calls K) × Shows K h s) → TextWritten K s before after r → ((n : ℕ) → r ≡ Ok n → q ≡ Ok n) → ((stop : Stop) → r ≡ Err stop → q ≡ Err (refusal_in stop)) → Reported (sheet_text K s) before after q
+write_told K s before after (Ok n) q H T o e = subst (Reported (sheet_text K s) before after) (sym (o n refl)) T
+write_told K s before after (Err stop) q H T o e = subst (Reported (sheet_text K s) before after) (sym (e stop refl)) (write_stop K s before after stop H T)
 
 -- a record that is taken: the history goes on, and the text of the sheet is that of its pulses
 module _ (K : Kind) (xs : Record K) (entries : ℕ) (before after : State) where

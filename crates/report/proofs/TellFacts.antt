@@ -93,14 +93,17 @@ pub report_paper : (text : List ℕ) → names_pieces text ≡ false → report_
 unfolding report_of
 report_paper text e = rw e refl
 
-pub report_same : (bytes due before after : List ℕ) (r : Result ℕ Refusal) → bytes ≡ due → Reported bytes before after r → Reported due before after r
-report_same bytes due before after r e w = subst (λ bs. Reported bs before after r) e w
-
 -- a buffer with room for every report is not refused
-pub never_short : (text before after : List ℕ) (r : Result ℕ Refusal) → Reported (report_of text) before after r → most_bytes ≤ length before → is_ok r ≡ true
+never_short : (text before after : List ℕ) (r : Result ℕ Refusal) → Reported (report_of text) before after r → most_bytes ≤ length before → is_ok r ≡ true
 never_short text before after (Ok n) w h = refl
 never_short text before after (Err e) w h = absurd (omega (arith, reports_fit text, w.1.1))
 
-pub short_alone : (bytes before after : List ℕ) (r : Result ℕ Refusal) → Reported bytes before after r → ShortAlone r
+short_alone : (bytes before after : List ℕ) (r : Result ℕ Refusal) → Reported bytes before after r → ShortAlone r
 short_alone bytes before after (Ok n) w = tt
 short_alone bytes before after (Err e) w = only_14 e w.0
+
+-- what is promised of a report, from the bytes due
+pub report_due : (text bytes before after : List ℕ) (r : Result ℕ Refusal) → bytes ≡ report_of text → Reported bytes before after r → Reported (report_of text) before after r × (most_bytes ≤ length before → is_ok r ≡ true) × ShortAlone r
+report_due text bytes before after r e w =
+    let answer = subst (λ bs. Reported bs before after r) e w in
+    (answer, never_short text before after r answer, short_alone (report_of text) before after r answer)

@@ -1,5 +1,5 @@
 // The report on a text.
-ghost use Rattle.std.specs.Prelude.{◌≡◌, ◌≤◌, true, [], map, length, take, is_ok};
+ghost use Rattle.std.specs.Prelude.{◌≡◌, ◌≤◌, true, [], map, length, is_ok};
 ghost use Rattle.kinds.specs.Wholes.{paper, mobile};
 ghost use Rattle.sheets.specs.Takes.{state_of};
 ghost use Rattle.sheets.specs.History.{Calls, Shows};
@@ -135,36 +135,32 @@ fn pulses_of<K: Total>(
 {
     let days = read_trace(text, totals)?;
     let mut sheet: Sheet<K, RowShelf<K>> = Sheet::new(RowShelf::over(rows));
-    split_and_write(&mut sheet, totals, days, work, out)
+    split_and_write(&mut sheet, &totals[..days], work, out)
 }
 
-// Splits the first days of a list on a new sheet and writes the pulses.
+// Splits a record on a new sheet and writes the pulses.
 fn split_and_write<K: Total, S: Shelf<K>>(
     sheet: &mut Sheet<K, S>,
-    totals: &[K],
-    days: usize,
+    record: &[K],
     work: &mut [WorkEntry<K>],
     out: &mut [u8],
 ) -> Result<usize, FileFault>
-    requires within { days ≤ length totals.now }
-    requires begun { Shows K.kind [] (state_of S.slots S.outside sheet.old) }
-    ensures { SplitWritten K.kind (map K.columns (take days totals.now)) (length work.old) (length (state_of S.slots S.outside sheet.old).slots) out.old out.new result }
+    requires { Shows K.kind [] (state_of S.slots S.outside sheet.old) }
+    ensures { SplitWritten K.kind (map K.columns record.now) (length work.old) (length (state_of S.slots S.outside sheet.old).slots) out.old out.new result }
 {
-    take_front(sheet, totals, days, work).map_err(FileFault::Taking)?;
+    take_record(sheet, record, work).map_err(FileFault::Taking)?;
     write_sheet(&*sheet, out).map_err(FileFault::Writing)
 }
 
-// Takes the first days of a list as a record.
-fn take_front<K: Total, S: Shelf<K>>(
+// Takes a record, with the refusal of a call of the sheet in its place.
+fn take_record<K: Total, S: Shelf<K>>(
     sheet: &mut Sheet<K, S>,
-    totals: &[K],
-    days: usize,
+    record: &[K],
     work: &mut [WorkEntry<K>],
 ) -> Result<usize, Refusal>
-    requires { days ≤ length totals.now }
-    ensures { RecordTaken K.kind (map K.columns (take days totals.now)) (length work.old) (state_of S.slots S.outside sheet.old) (state_of S.slots S.outside sheet.new) result }
+    ensures { RecordTaken K.kind (map K.columns record.now) (length work.old) (state_of S.slots S.outside sheet.old) (state_of S.slots S.outside sheet.new) result }
 {
-    sheet.take(&totals[..days], work).map_err(refusal_in)
+    sheet.take(record, work).map_err(refusal_in)
 }
 
 // Writes the pulse text of a sheet that some calls lead to.

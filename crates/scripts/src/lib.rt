@@ -28,7 +28,7 @@ fn over_rows<K: Total>(rt: &HostRuntime, script: Script<'_>, size: usize) -> any
     Ok(())
 }
 
-// The same over bytes.
+// The same over bytes. Stays beside the other: list, shelf and print are of other types.
 fn over_bytes<K: Total>(rt: &HostRuntime, script: Script<'_>, size: usize) -> anyhow::Result<()> {
     let mut bytes = vec![in rt.alloc(); 0u8; size]?;
     let shelf: ByteShelf<K> = ByteShelf::over(&mut bytes);

@@ -11,10 +11,10 @@ returns g c =
     let capacity : length (shown_rows g.K.Total.kind g.K.Total.columns c.new-sheet.result.shelf.rows.now) ≡ length c.args.rows.now =
     ap (λ (s : State). length s.slots) c.new-sheet.ensures.answer ∙ (ap length c.over.ensures.slots ∙ length-map c.args.rows.now (shown g.K.Total.kind g.K.Total.columns)) in
     let p =
-    pulses_written g.K.Total.kind c.args.text.now (length c.args.totals.now) xs c.requires.totals c.in_ok-days.ensures.answer.0 (length c.args.work.now)
+    pulses_written g.K.Total.kind c.args.text.now (length c.args.totals.now) xs c.told-totals c.in_ok-days.ensures.answer.0 (length c.args.work.now)
     (length (shown_rows g.K.Total.kind g.K.Total.columns c.new-sheet.result.shelf.rows.now))
-    c.requires.work
-    (omega (arith, capacity, c.requires.rows))
+    (omega (arith, c.told-work))
+    (omega (arith, capacity, c.told-rows))
     c.args.out.now c.split_and_write.new.out c.split_and_write.result c.split_and_write.ensures
     in
     record { answer = p.0; fault = p.1 }
