@@ -1,8 +1,8 @@
 -- Lemmas on the parts of a text.
-use Rattle.std.proofs.Common.{◌≡◌, ℕ, suc, ◌+◌, ◌<◌, ◌≤◌, Bool, true, false, cond, eqb, ltb, List, [], ◌∷◌, length, take, drop, count_by, position, Some, None, sym, refl, ap, ◌∙◌, inl, inr, add-one, arith}
-use Rattle.std.proofs.lemmas.Bool.{cases_Bool, ltb-true, ltb-false, lt-ltb, le-ltb}
+use Rattle.std.proofs.Common.{◌≡◌, ℕ, suc, ◌+◌, ◌<◌, ◌≤◌, Bool, true, false, cond, eqb, ltb, List, [], ◌∷◌, length, get_or, take, drop, count_by, position, Some, None, sym, refl, ap, ◌∙◌, inl, inr, add-one, arith}
+use Rattle.std.proofs.lemmas.Bool.{cases_Bool, eq-eqb, ne_eqb, ltb-true, ltb-false, lt-ltb, le-ltb}
 use Rattle.std.proofs.lemmas.Bool.Decides.{nat_tests}
-use Rattle.std.proofs.lemmas.List.{length-take, length-drop}
+use Rattle.std.proofs.lemmas.List.{at_drop_more, at_drop_all, length-take, length-drop}
 use Rattle.std.proofs.lemmas.List.Splits.{length-slice_split}
 use Rattle.std.specs.List.{slice_split, onto_first, position_or_len, list_any}
 use Rattle.reading.specs.Parts.{parts, longer, reach, holds, Cut}
@@ -50,6 +50,20 @@ parts_last c (b ∷ bs) h =
       | inl e ↦ absurd (let k : ◌≡◌ {A = ℕ} 0 (suc (length bs)) = rw e at h in omega arith)
       | inr e ↦ rw e (ap (longer b) (parts_last c bs (let k : suc (reach c bs) ≡ suc (length bs) = rw e at h in omega arith)))
     ]
+
+-- one byte on
+pub reach_stop : (c : ℕ) (bs : List ℕ) (i : ℕ) → i < length bs → get_or bs i 0 ≡ c → reach c (drop i bs) ≡ 0
+reach_stop c bs i h e =
+    let t = eq-eqb (get_or bs i 0) c e in
+    at_drop_more (reach c) bs i 0 h ∙ rw t refl
+
+pub reach_pass : (c : ℕ) (bs : List ℕ) (i : ℕ) → i < length bs → (get_or bs i 0 ≡ c → ⊥) → reach c (drop i bs) ≡ suc (reach c (drop (i + 1) bs))
+reach_pass c bs i h e =
+    let t = ne_eqb (get_or bs i 0) c e in
+    at_drop_more (reach c) bs i 0 h ∙ rw t refl
+
+pub reach_end : (c : ℕ) (bs : List ℕ) (i : ℕ) → length bs ≤ i → reach c (drop i bs) ≡ 0
+reach_end c bs i h = at_drop_all (reach c) bs i h
 
 -- the place of the first c, as std finds it
 pub reach_position : (c : ℕ) (bs : List ℕ) → position_or_len (λ b. eqb b c) bs ≡ reach c bs
