@@ -1,16 +1,16 @@
 -- What the comparisons of totals say of the kind's order.
-use Rattle.std.specs.Prelude.{◌≡◌, Bool, true, false, MatchBool, Option, Some, ◌≢◌, refl}
+use Rattle.std.specs.Prelude.{◌≡◌, Bool, true, false, MatchBool, Option, Some, ◌≢◌}
 use Rattle.std.specs.declared.cmp.Ordering.TheVariants.{Less, Equal, Greater}
 use Rattle.std.specs.declared.cmp.Ordering.{Ordering}
-use Rattle.std.specs.Ordering.{is_lt, is_eq}
-use Rattle.std.proofs.Common.{ap, ◌∙◌, sym, arith}
+use Rattle.std.specs.Ordering.{is_lt, is_eq, is_some_and}
+use Rattle.std.proofs.Common.{ap, ◌∙◌, sym}
 use Rattle.kinds.specs.Kinds.{Kind, Of, Lawful, Compared}
 
 -- less is below
-pub below_is_lt : (K : Kind) → Lawful K → (x y : Of K) (r : Ordering) → Compared K.below x y r → is_lt r ≡ K.below x y
-below_is_lt K law x y Less h = sym h
-below_is_lt K law x y Equal h = sym (ap (K.below x) (sym h) ∙ law.irreflexive x)
-below_is_lt K law x y Greater h = sym (law.one_way y x h)
+pub lt_is_below : (K : Kind) → Lawful K → (x y : Of K) (r : Ordering) (p : Option Ordering) (b : Bool) → Compared K.below x y r → p ≡ Some r → b ≡ is_some_and is_lt p → K.below x y ≡ b
+lt_is_below K law x y Less p b h m e = h ∙ sym (e ∙ ap (is_some_and is_lt) m)
+lt_is_below K law x y Equal p b h m e = ap (K.below x) (sym h) ∙ law.irreflexive x ∙ sym (e ∙ ap (is_some_and is_lt) m)
+lt_is_below K law x y Greater p b h m e = law.one_way y x h ∙ sym (e ∙ ap (is_some_and is_lt) m)
 
 -- equal are totals of the same columns, and they alone
 pub equal_is_eq : (K : Kind) → Lawful K → (x y : Of K) (r : Ordering) (b : Bool) → Compared K.below x y r → b ≡ is_eq r → MatchBool b (x ≡ y) (x ≢ y)

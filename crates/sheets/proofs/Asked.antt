@@ -31,13 +31,9 @@ module _ (K : Kind) (O : Lawful K) (x z : Of K) (e : z ≡ nought K.arity) where
   unfolding size
   size_below h = rw (e) (sym (cond-true _ _ _ (rw e at h)))
 
-  pub size_equal : x ≡ z → x ≡ size K x
+  pub size_kept : K.below x z ≡ false → x ≡ size K x
   unfolding size
-  size_equal h = sym (cond-false _ _ _ (ap (λ y. K.below y (nought K.arity)) (h ∙ e) ∙ O.irreflexive _))
-
-  pub size_above : K.below z x ≡ true → x ≡ size K x
-  unfolding size
-  size_above h = sym (cond-false _ _ _ (rw e at (O.one_way _ _ h)))
+  size_kept h = sym (cond-false _ _ _ (rw e at h))
 
 -- a standing total that comes to a blank slot, or to a sum that the kind has no value of, in a sheet
 -- that no list of calls leads to
