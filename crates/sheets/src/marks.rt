@@ -43,7 +43,7 @@ impl<K: Total> HeldRow<K> {
         Row {
             first: self.first,
             width: self.width,
-            mark: self.mark.number(),
+            mark: u8::from(self.mark),
             amount: self.amount,
         }
     }

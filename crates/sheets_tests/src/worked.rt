@@ -2,7 +2,7 @@
 use histories::{Step, sheet_after};
 use kinds::{Cents, Total};
 use sheets::{Sheet, Stop, WorkEntry};
-use shelves::{OverRows, Row, RowShelf};
+use shelves::{Row, RowShelf};
 
 fn cents(value: i64) -> Cents {
     Cents::new(value)
