@@ -12,7 +12,7 @@ use splitting::{WorkEntry, split_record};
 use std::marker::PhantomData;
 
 // Why a call of a sheet gave no answer.
-#[derive(Clone, Copy)]
+#[derive(Clone, Copy, Debug, PartialEq, Eq)]
 pub enum Stop {
     // it was refused, by the table
     Refused(Refusal),
