@@ -26,11 +26,8 @@ impl Aim {
     fn under<K: Total>(self, a: K, b: K) -> bool
         ensures { result ≡ (aimed K.kind self).below (K.columns a) (K.columns b) }
     {
-        let order = match self {
-            Aim::Bumps => a.compare(b),
-            Aim::Pits => b.compare(a),
-        };
-        match order {
+        let down = self == Aim::Pits;
+        match if down { b.compare(a) } else { a.compare(b) } {
             Ordering::Less => true,
             Ordering::Equal => false,
             Ordering::Greater => false,
