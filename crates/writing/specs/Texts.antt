@@ -7,7 +7,7 @@ use Rattle.refusals.specs.declared.refusal.Refusal.TheVariants.{WrongNames, TooM
 use Rattle.refusals.specs.declared.refusal.Place.{Place}
 use Rattle.figures.specs.declared.heading.Heading.{Heading}
 use Rattle.figures.specs.declared.heading.Heading.TheVariants.{Day, Pulse, Width, First, State, Refusal, Line, Byte}
-use Rattle.writer.specs.declared.value.Word.{Word}
+use Rattle.shelves.specs.declared.row.Mark.{Mark}
 use Rattle.writer.specs.declared.value.Value.{Value}
 use Rattle.writer.specs.declared.value.Value.TheVariants.{Count, Amount, Word as word}
 use Rattle.figures.specs.Headings.{letters, first, second, if_any, twins, column_headings}
@@ -22,7 +22,7 @@ abbrev pub column_list : (K : Kind) → Of K → List ℤ
 column_list K x = first K.arity x ∷ if_any (second K.arity x)
 
 -- the line of a pulse: its number, width, first day, amount and state
-unfoldable pub pulse_values : (K : Kind) → ℕ → ℕ → ℕ → Of K → Word → List Value
+unfoldable pub pulse_values : (K : Kind) → ℕ → ℕ → ℕ → Of K → Mark → List Value
 pulse_values K pulse width day amount state =
     Count pulse ∷ (Count width ∷ (Count day ∷ (map Amount (column_list K amount) ++ word state ∷ [])))
 
