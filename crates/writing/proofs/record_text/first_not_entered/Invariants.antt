@@ -1,8 +1,0 @@
-use Rattle.std.proofs.Common.{◌≡◌, ◌+◌, map, drop}
-use Rattle.writing.specs.Texts.{not_entered}
-use Rattle.writing.proofs.record_text.first_not_entered.Given as goal
-
-abbrev pub invariant-loop-total : goal.invariant-loop-total
-invariant-loop-total g l =
-    (not_entered g.K.Total.kind (l.day + 1) (map g.K.Total.columns (drop l.total-index l.totals)) ≡ not_entered g.K.Total.kind 1 (map g.K.Total.columns l.totals))
-    × (l.day ≡ l.total-index)
