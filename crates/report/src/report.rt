@@ -8,14 +8,12 @@ ghost use Rattle.report.specs.PulseTexts.{sheet_text};
 ghost use Rattle.report.specs.Reports.{first_line, names_pieces, report_as, report_of, Reported, most_bytes, ReportsFit, refusal_in, RecordTaken, SplitWritten, PulsesWritten, FaultTold, Told, ShortAlone, OfReport};
 
 use crate::sheet_text::write_pulses;
-use kinds::{Mobile, Paper, Total};
+use kinds::{MOST_DAYS, Mobile, Paper, Total};
 use reading::{field, read_trace};
 use refusals::{FileFault, Refusal};
 use sheets::{Sheet, Stop, WorkEntry};
 use shelves::{Row, RowShelf, Shelf};
 use writing::write_refusal;
-
-const MOST_DAYS: usize = 1000;
 
 const WORK_ENTRIES: usize = 1002;
 
