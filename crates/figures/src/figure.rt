@@ -68,5 +68,4 @@ pub fn read_figure(bytes: &[u8]) -> Option<i64>
 // The law of figures, for proofs above: what is written reads back, and what reads is what would be written.
 pub fn figures_agree()
     ensures { FiguresAgree }
-{
-}
+{}

@@ -152,5 +152,4 @@ pub fn read_trace<K: Total>(text: &[u8], totals: &mut [K]) -> Result<usize, File
 // refused meets that condition first.
 pub fn reading_law()
     ensures { ReadingLaw }
-{
-}
+{}

@@ -14,26 +14,19 @@ fn marked_total<K: Total>(mark: i64) -> K {
 
 fn marked_list<K: Total>(heap: Global, room: usize) -> Result<Vec<K>, AllocError> {
     let mut totals = Vec::new(heap);
-    let mut mark = FIRST_MARK;
-    for _ in 0..room {
+    for mark in (FIRST_MARK..).take(room) {
         totals.push(marked_total::<K>(mark))?;
-        mark = mark.wrapping_add(1);
     }
     Ok(totals)
 }
 
 // Whether every entry past the first so many is as it was.
 fn is_left<K: Total>(totals: &[K], kept: usize) -> bool {
-    let mut mark = FIRST_MARK;
-    for (i, total) in totals.iter().enumerate() {
-        let first = total.column(1).unwrap_or(0);
-        let second = total.column(2).unwrap_or(first);
-        if i >= kept && (first != mark || second != mark) {
-            return false;
-        }
-        mark = mark.wrapping_add(1);
-    }
-    true
+    totals
+        .iter()
+        .zip(FIRST_MARK..)
+        .skip(kept)
+        .all(|(total, mark)| *total == marked_total(mark))
 }
 
 fn put_total<K: Total>(heap: Global, answer: &mut String, total: K) -> Result<(), AllocError> {

@@ -168,7 +168,6 @@ impl FileFault {
 // The law of faults, for proofs above: number, line and byte of a fault of reading determine it.
 pub fn faults_told_apart()
     ensures { ToldApart }
-{
-}
+{}
 
 const NOWHERE: Place = Place { line: 0, byte: 0 };

@@ -37,8 +37,7 @@ pub fn report_on(text: &[u8], out: &mut [u8]) -> Result<usize, Refusal>
 pub fn reports_fit()
     ensures fit { ReportsFit }
     ensures room { MOST_REPORT_BYTES ≡ most_bytes }
-{
-}
+{}
 
 // Apart from the public call, which has no proof file: an edit of that call is then refused by a fact.
 fn report_either(text: &[u8], out: &mut [u8]) -> Result<usize, Refusal>

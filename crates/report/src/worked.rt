@@ -4,5 +4,4 @@ ghost use Rattle.report.specs.Worked.{AllRight, worked};
 // the text worked through has its report.
 pub fn worked_list_holds()
     ensures { AllRight worked }
-{
-}
+{}

@@ -60,10 +60,8 @@ fn read_into<K: Total>(
     match read_trace::<K>(text, totals) {
         Ok(days) => {
             print!(rt; "{days} days")?;
-            for (i, total) in totals.iter().enumerate() {
-                if i < days {
-                    show_total(rt, *total)?;
-                }
+            for total in totals.iter().take(days) {
+                show_total(rt, *total)?;
             }
             println!(rt; "")
         }

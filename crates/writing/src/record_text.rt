@@ -142,5 +142,4 @@ pub fn write_trace<K: Total>(totals: &[K], out: &mut [u8]) -> Result<usize, Refu
 // The law of written trace texts, for proofs above: what is written reads back.
 pub fn texts_agree()
     ensures { TextsAgree }
-{
-}
+{}

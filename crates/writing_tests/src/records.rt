@@ -25,19 +25,16 @@ struct Case {
 
 // The first line of some bytes, and what follows its line feed.
 fn split_line(bytes: &[u8]) -> (&[u8], &[u8]) {
-    for (end, byte) in bytes.iter().enumerate() {
-        if *byte == b'\n' {
-            return (&bytes[0..end], &bytes[end + 1..]);
-        }
+    match bytes.iter().position(|byte| *byte == b'\n') {
+        Some(end) => (&bytes[..end], &bytes[end + 1..]),
+        None => (bytes, &[]),
     }
-    (bytes, &bytes[bytes.len()..])
 }
 
 fn figure_under(names: &[u8], row: &[u8], name: &[u8]) -> i64 {
-    match field(names, row, name) {
-        Some(bytes) => read_figure(bytes).unwrap_or(-1),
-        None => -1,
-    }
+    field(names, row, name)
+        .and_then(|bytes| read_figure(bytes))
+        .unwrap_or(-1)
 }
 
 fn count_under(names: &[u8], row: &[u8], name: &[u8]) -> usize {
@@ -68,28 +65,16 @@ fn record<K: Total>(heap: Global, case: Case) -> Result<Vec<K>, AllocError> {
 
 // Whether all those bytes, and none before, are as they were.
 fn is_left(out: &[u8], written: usize) -> bool {
-    for (i, byte) in out.iter().enumerate() {
-        if (*byte == FILLER) != (i >= written) {
-            return false;
-        }
-    }
-    true
+    out.iter()
+        .enumerate()
+        .all(|(i, byte)| (*byte == FILLER) == (i >= written))
 }
 
 // Whether the text reads as these totals.
 fn reads_back<K: Total>(heap: Global, text: &[u8], totals: &[K]) -> Result<bool, AllocError> {
-    let mut back = Vec::new(heap);
-    for _ in totals {
-        back.push(K::zero())?;
-    }
+    let mut back = vec![in heap; K::zero(); totals.len()]?;
     let days = read_trace(text, back.as_mut_slice()).unwrap_or(0);
-    let mut same = days == totals.len();
-    for (total, read) in totals.iter().zip(back.as_slice()) {
-        let first = total.column(1).unwrap_or(0) == read.column(1).unwrap_or(0);
-        let second = total.column(2).unwrap_or(0) == read.column(2).unwrap_or(0);
-        same = same && first && second;
-    }
-    Ok(same)
+    Ok(days == totals.len() && back.as_slice() == totals)
 }
 
 fn written<K: Total>(totals: &[K], out: &mut [u8]) -> Result<usize, FileFault> {
@@ -157,13 +142,10 @@ fn try_row(rt: &HostRuntime, names: &[u8], row: &[u8]) -> anyhow::Result<()> {
 // Tries every row of the table.
 pub fn try_table(rt: &HostRuntime, table: &[u8]) -> anyhow::Result<()> {
     let (names, rows) = split_line(table);
-    let mut left = rows;
-    for _ in 0..rows.len() {
-        let (row, more) = split_line(left);
-        if row.len() > 0 {
+    for row in rows.split(|byte| *byte == b'\n') {
+        if !row.is_empty() {
             try_row(rt, names, row)?;
         }
-        left = more;
     }
     Ok(())
 }
