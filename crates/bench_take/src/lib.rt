@@ -3,12 +3,10 @@
 
 mod lot;
 
-use kinds::{Cents, Total};
+use kinds::{Cents, MOST_DAYS, Total};
 use lot::take_lot;
 use sheets::WorkEntry;
 use shelves::Row;
-
-const MOST_DAYS: usize = 1000;
 
 // The most totals of one call, all its records together.
 const MOST_TOTALS: usize = 16_000;

@@ -1,5 +1,6 @@
 pub mod Columns
 pub mod Kinds
+pub mod Entries
 pub mod Pairs
 pub mod Wholes
 pub mod PairsLemmas

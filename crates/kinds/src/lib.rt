@@ -1,15 +1,18 @@
-// Kinds of total: the interface, and the kinds cents, pieces and pairs of one-column kinds.
+// Kinds of total: the interface, the kinds cents, pieces and pairs of one-column kinds, and what
+// records of every kind share.
 #![tactic(auto)]
 
 mod name;
 mod one_column;
 mod pair;
+mod record;
 mod total;
 mod whole;
 
 pub use name::{Name, name_code};
 pub use one_column::OneColumn;
 pub use pair::Pair;
+pub use record::{MOST_DAYS, first_barred};
 pub use total::Total;
 pub use whole::{Cents, CentsUnit, Pieces, PiecesUnit, Unit, Whole};
 

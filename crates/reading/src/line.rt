@@ -10,10 +10,8 @@ ghost use Rattle.refusals.specs.Faults.{at_figure, at_day, line_found, OnLine};
 use crate::fields::{count_fields, field_of_line, start_under};
 use crate::walk::Fields;
 use figures::{Heading, first_column, read_figure, second_column};
-use kinds::Total;
+use kinds::{MOST_DAYS, Total};
 use refusals::{FieldFault, LineFault};
-
-const MOST_DAYS: usize = 1000;
 
 // The line of a day under the names line, and the byte of the text at which it starts.
 #[derive(Clone, Copy)]

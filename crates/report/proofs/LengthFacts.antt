@@ -13,8 +13,8 @@ use Rattle.transform.specs.Pulses.{Pulse, pulses}
 use Rattle.transform.proofs.Counts.{pulses_few}
 use Rattle.transform.proofs.Endings.{pulses_within}
 use Rattle.transform.proofs.Ranges.{in_range}
-use Rattle.writer.specs.declared.value.Word.{Word}
-use Rattle.writer.specs.declared.value.Word.TheVariants.{In, Out}
+use Rattle.shelves.specs.declared.row.Mark.{Mark}
+use Rattle.shelves.specs.declared.row.Mark.TheVariants.{In, Out}
 use Rattle.writer.specs.declared.value.Value.TheVariants.{Amount, Word as word}
 use Rattle.figures.specs.Headings.{first, second, if_any}
 use Rattle.writing.specs.Texts.{pulse_values}
@@ -45,11 +45,11 @@ signed_short (negsuc n) h =
     let d = length-decimal-le 19 (suc n) (omega arith) (omega arith) (omega arith) in
     omega arith
 
-spelled_short : (w : Word) → length (spelled w) ≤ 3
+spelled_short : (w : Mark) → length (spelled w) ≤ 3
 spelled_short In = omega arith
 spelled_short Out = omega arith
 
-columns_short : (a : Arity) (x : Columns a) (w : Word) → EachColumn a (λ v. fits64 v ≡ true) x → widths shown (map Amount (first a x ∷ if_any (second a x)) ++ word w ∷ []) ≤ 46
+columns_short : (a : Arity) (x : Columns a) (w : Mark) → EachColumn a (λ v. fits64 v ≡ true) x → widths shown (map Amount (first a x ∷ if_any (second a x)) ++ word w ∷ []) ≤ 46
 columns_short one x w f = omega (arith, signed_short x f, spelled_short w)
 columns_short two x w f = omega (arith, signed_short x.0 f.0, signed_short x.1 f.1, spelled_short w)
 

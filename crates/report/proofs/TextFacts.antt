@@ -12,7 +12,8 @@ use Rattle.sheets.specs.Takes.{State}
 use Rattle.sheets.specs.History.{Calls, Shows, Strays, row}
 use Rattle.sheets.specs.Standing.{unlisted}
 use Rattle.sheets.specs.Questions.{Listed}
-use Rattle.writer.specs.declared.value.Word.{Word}
+use Rattle.shelves.specs.declared.row.Mark.{Mark}
+use Rattle.shelves.specs.declared.row.Mark.TheVariants.{In, Out}
 use Rattle.figures.specs.Headings.{letters}
 use Rattle.writing.specs.Texts.{pulse_names, pulse_values}
 use Rattle.writer.specs.Values.{line, shown}
@@ -24,13 +25,17 @@ pub unlisted_listed : (a : Arity) (x : Columns a) → unlisted a (listed a x) �
 unlisted_listed one x = refl
 unlisted_listed two x = refl
 
+marked : (m : Mark) → state (is_out m) ≡ m
+marked In = refl
+marked Out = refl
+
 -- the line of a listed pulse
-pub listed_line : {V : Type 0} (K : Kind) (columns : V → Of K) (s : State) (n : ℕ) (p : ListedPulse V) (w : Word) → Listed K columns s n (Ok p) → w ≡ state (is_out p.mark) →
-    slot_line K s.slots n ≡ line shown (pulse_values K n p.stretch.width p.stretch.first (columns p.amount) w)
-listed_line K columns s n p w l e =
+pub listed_line : {V : Type 0} (K : Kind) (columns : V → Of K) (s : State) (n : ℕ) (p : ListedPulse V) → Listed K columns s n (Ok p) →
+    slot_line K s.slots n ≡ line shown (pulse_values K n p.stretch.width p.stretch.first (columns p.amount) p.mark)
+listed_line K columns s n p l =
     ap (row_line K n) l.2
     ∙ (ap (λ x. line shown (pulse_values K n p.stretch.width p.stretch.first x (state (is_out p.mark)))) (unlisted_listed K.arity (columns p.amount))
-    ∙ ap (λ v. line shown (pulse_values K n p.stretch.width p.stretch.first (columns p.amount) v)) (sym e))
+    ∙ ap (λ v. line shown (pulse_values K n p.stretch.width p.stretch.first (columns p.amount) v)) (marked p.mark))
 
 -- bytes of which none are written
 pub cut_none : (at : ℕ) (bytes out : List ℕ) → CutShort at bytes out out

@@ -13,8 +13,8 @@ use Rattle.sheets.specs.Takes.{State}
 use Rattle.sheets.specs.History.{Calls, Held, Out, Shows, Strays}
 use Rattle.sheets.specs.Standing.{pulse_of}
 use Rattle.sheets.specs.Questions.{Unled}
-use Rattle.writer.specs.declared.value.Word.{Word}
-use Rattle.writer.specs.declared.value.Word.TheVariants.{In as word_in, Out as word_out}
+use Rattle.shelves.specs.declared.row.Mark.{Mark}
+use Rattle.shelves.specs.declared.row.Mark.TheVariants.{In as marked_in, Out as marked_out}
 use Rattle.figures.specs.Headings.{letters}
 use Rattle.writing.specs.declared.pulse_text.PulseLine.{PulseLine}
 use Rattle.writing.specs.Texts.{pulse_names, pulse_values}
@@ -22,8 +22,8 @@ use Rattle.writer.specs.Values.{line, shown}
 use Rattle.writer.specs.Written.{pasted, Writes}
 
 -- the state of a pulse: in, or out
-abbrev pub state : Bool → Word
-state out = cond out word_out word_in
+abbrev pub state : Bool → Mark
+state out = cond out marked_out marked_in
 
 -- the line of pulse number n
 abbrev pub pulse_line : (K : Kind) → ℕ → Pulse K → Bool → List ℕ

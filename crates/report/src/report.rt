@@ -8,14 +8,12 @@ ghost use Rattle.report.specs.PulseTexts.{sheet_text};
 ghost use Rattle.report.specs.Reports.{first_line, names_pieces, report_as, report_of, Reported, most_bytes, ReportsFit, refusal_in, RecordTaken, SplitWritten, PulsesWritten, FaultTold, Told, ShortAlone, OfReport};
 
 use crate::sheet_text::write_pulses;
-use kinds::{Mobile, Paper, Total};
+use kinds::{MOST_DAYS, Mobile, Paper, Total};
 use reading::{field, read_trace};
 use refusals::{FileFault, Refusal};
 use sheets::{Sheet, Stop, WorkEntry};
 use shelves::{Row, RowShelf, Shelf};
 use writing::write_refusal;
-
-const MOST_DAYS: usize = 1000;
 
 const WORK_ENTRIES: usize = 1002;
 
@@ -140,26 +138,26 @@ fn pulses_of<K: Total>(
 // Splits a record on a new sheet and writes the pulses.
 fn split_and_write<K: Total, S: Shelf<K>>(
     sheet: &mut Sheet<K, S>,
-    record: &[K],
+    totals: &[K],
     work: &mut [WorkEntry<K>],
     out: &mut [u8],
 ) -> Result<usize, FileFault>
     requires { Shows K.kind [] (state_of S.slots S.outside sheet.old) }
-    ensures { SplitWritten K.kind (map K.columns record.now) (length work.old) (length (state_of S.slots S.outside sheet.old).slots) out.old out.new result }
+    ensures { SplitWritten K.kind (map K.columns totals.now) (length work.old) (length (state_of S.slots S.outside sheet.old).slots) out.old out.new result }
 {
-    take_record(sheet, record, work).map_err(FileFault::Taking)?;
+    take_record(sheet, totals, work).map_err(FileFault::Taking)?;
     write_sheet(&*sheet, out).map_err(FileFault::Writing)
 }
 
 // Takes a record, with the refusal of a call of the sheet in its place.
 fn take_record<K: Total, S: Shelf<K>>(
     sheet: &mut Sheet<K, S>,
-    record: &[K],
+    totals: &[K],
     work: &mut [WorkEntry<K>],
 ) -> Result<usize, Refusal>
-    ensures { RecordTaken K.kind (map K.columns record.now) (length work.old) (state_of S.slots S.outside sheet.old) (state_of S.slots S.outside sheet.new) result }
+    ensures { RecordTaken K.kind (map K.columns totals.now) (length work.old) (state_of S.slots S.outside sheet.old) (state_of S.slots S.outside sheet.new) result }
 {
-    sheet.take(record, work).map_err(refusal_in)
+    sheet.take(totals, work).map_err(refusal_in)
 }
 
 // Writes the pulse text of a sheet that some calls lead to.

@@ -8,7 +8,7 @@ use kinds::Total;
 use refusals::Refusal;
 use sheets::{Sheet, Stop};
 use shelves::Shelf;
-use writer::{Lines, Naming, Word};
+use writer::{Lines, Naming};
 use writing::{
     PulseLine, room_behind_pulse, room_behind_pulse_names, write_pulse, write_pulse_names,
 };
@@ -129,6 +129,6 @@ fn line_of<K: Total, S: Shelf<K>>(sheet: &Sheet<K, S>, number: usize) -> Result<
         width: pulse.stretch.width as usize,
         first: pulse.stretch.first as usize,
         amount: pulse.amount,
-        state: Word::from(pulse.mark),
+        state: pulse.mark,
     })
 }

@@ -2,15 +2,12 @@
 use crate::answers::{Answer, Columns, Numbered, Stopped, Totals};
 use crate::script::{Command, Script};
 use histories::sheet_after;
-use kinds::Total;
+use kinds::{MOST_DAYS, Total};
 use reading::read_trace;
 use report::{MOST_REPORT_BYTES, write_pulses};
 use sheets::{Sheet, WorkEntry};
 use shelves::Shelf;
 use std::io::Write;
-
-// As many totals as a text may hold.
-const MOST_DAYS: usize = 1000;
 
 // How a script came to its end.
 #[derive(Clone, Copy, PartialEq, Eq)]

@@ -8,13 +8,11 @@ ghost use Rattle.sheets.specs.Promise.{Keeps, Promise};
 
 use crate::marks::{Widths, mark_slot, mark_widths};
 use crate::sheet::{Sheet, Stop};
-use kinds::Total;
+use kinds::{MOST_DAYS, Total};
 use refusals::Refusal;
 use shelves::{Mark, Shelf};
 use splitting::WorkEntry;
 use std::marker::PhantomData;
-
-const WIDEST: usize = 1000;
 
 impl<K: Total, S: Shelf<K>> Sheet<K, S> {
     // A sheet of the empty record, with no pulses. The slots are left alone.
@@ -92,7 +90,7 @@ fn begun<K: Total, S: Shelf<K>>(shelf: S) -> Sheet<K, S>
     }
 }
 
-// Sets a mark on every pulse that has one of the widths.
+// Sets a mark on every pulse that has one of the widths. No pulse is wider than a record has days.
 fn mark_range<K: Total, S: Shelf<K>>(
     sheet: &mut Sheet<K, S>,
     mark: Mark,
@@ -102,7 +100,7 @@ fn mark_range<K: Total, S: Shelf<K>>(
     ensures history { Continues K.kind (marking mark widths.lowest widths.highest) (state_of S.slots S.outside sheet.old) (state_of S.slots S.outside sheet.new) result }
     ensures promise { Keeps K.kind (marking mark widths.lowest widths.highest) (state_of S.slots S.outside sheet.old) (state_of S.slots S.outside sheet.new) }
 {
-    if widths.lowest == 0 || widths.lowest > widths.highest || widths.highest > WIDEST {
+    if widths.lowest == 0 || widths.lowest > widths.highest || widths.highest > MOST_DAYS {
         return Err(Stop::Refused(Refusal::WidthsOutOfRange));
     }
     mark_widths(&mut sheet.shelf, sheet.pulses, mark, widths)

@@ -1,4 +1,5 @@
 mod Days
+mod Entered
 mod Grounds
 mod Views
 mod Runs

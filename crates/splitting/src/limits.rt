@@ -2,24 +2,15 @@
 ghost use Rattle.std.specs.Prelude.{map, MatchResult};
 ghost use Rattle.splitting.specs.Records.{Accepted, BarredDay, Lowest};
 
-use kinds::Total;
+use kinds::{MOST_DAYS, Total, first_barred};
 use refusals::Refusal;
 
-const MOST_DAYS: usize = 1000;
-
-// The first day, counted from 1, whose total may not be entered.
-fn first_barred<K: Total>(totals: &[K]) -> Option<usize>
+// The first day whose total may not be entered, as the law of refusals names it.
+#[tactic(auto, using(crate::proofs::Entered::barred_day))]
+fn barred_day<K: Total>(totals: &[K]) -> Option<usize>
     ensures { BarredDay K.kind (map K.columns totals.now) result }
 {
-    let mut day = 0usize;
-    // Stays a loop with a counter: the project fixed the form in which this day is found.
-    for total in totals {
-        day += 1;
-        if !total.may_enter() {
-            return Some(day);
-        }
-    }
-    None
+    first_barred(totals)
 }
 
 // Refuses a record by the lowest number of the table whose condition it meets.
@@ -30,7 +21,7 @@ pub(crate) fn admit<K: Total>(totals: &[K], entries: usize, capacity: usize) -> 
     if days > MOST_DAYS {
         return Err(Refusal::TooManyDays);
     }
-    if let Some(day) = first_barred(totals) {
+    if let Some(day) = barred_day(totals) {
         return Err(Refusal::MayNotEnter { day });
     }
     if entries < days + 2 {

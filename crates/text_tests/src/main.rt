@@ -5,7 +5,7 @@
 use kinds::{Cents, CentsUnit, Pair, Pieces, PiecesUnit, Total, Whole};
 use std::io;
 use text::{
-    FileFault, Lines, Naming, PulseLine, Value, Word, field, read_figure, read_trace, write_pulse,
+    FileFault, Lines, Mark, Naming, PulseLine, Value, field, read_figure, read_trace, write_pulse,
     write_pulse_names, write_refusal, write_trace,
 };
 
@@ -178,7 +178,7 @@ fn pulses(rt: &HostRuntime) -> io::Result<()> {
         width: 2,
         first: 17,
         amount,
-        state: Word::In,
+        state: Mark::In,
     };
     let Ok(lines) = write_pulse(lines, pulse, &mut out) else {
         return println!(rt; "too short");
@@ -188,7 +188,7 @@ fn pulses(rt: &HostRuntime) -> io::Result<()> {
         width: 1000,
         first: 1,
         amount,
-        state: Word::Out,
+        state: Mark::Out,
     };
     let Ok(lines) = write_pulse(lines, pulse, &mut out) else {
         return println!(rt; "too short");

@@ -1,12 +1,12 @@
 -- What stands in a line that is written.
 use Rattle.std.specs.Prelude.{ℕ, List, [], ◌∷◌, ◌++◌, codes, decimal}
 use Rattle.std.specs.Fmt.{signed_decimal}
-use Rattle.writer.specs.declared.value.Word.{Word}
-use Rattle.writer.specs.declared.value.Word.TheVariants.{In, Out}
+use Rattle.shelves.specs.declared.row.Mark.{Mark}
+use Rattle.shelves.specs.declared.row.Mark.TheVariants.{In, Out}
 use Rattle.writer.specs.declared.value.Value.{Value}
 use Rattle.writer.specs.declared.value.Value.TheVariants.{Count, Amount, Word as word}
 
-abbrev pub spelled : Word → List ℕ
+abbrev pub spelled : Mark → List ℕ
 spelled In = codes "in"
 spelled Out = codes "out"
 

@@ -5,5 +5,5 @@ mod bytes;
 mod value;
 mod writer;
 
-pub use value::{Shown, Value, Word};
+pub use value::{Shown, Value};
 pub use writer::{Ended, Lines, Naming, Short, room_behind};

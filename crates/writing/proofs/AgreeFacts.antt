@@ -1,13 +1,14 @@
 -- A record that is written reads back the same.
 use Rattle.std.proofs.Common.{◌≡◌, ℕ, ◌≤◌, ltb, List, length, Some, None, Ok, Option, Result, sym, refl, ap, ◌∙◌}
 use Rattle.std.proofs.lemmas.Bool.{ltb-false}
+use Rattle.kinds.specs.Entries.{not_entered}
 use Rattle.kinds.specs.Kinds.{Kind, Of, Lawful}
 use Rattle.refusals.specs.declared.refusal.Refusal.{Refusal}
 use Rattle.refusals.specs.declared.refusal.Refusal.TheVariants.{MayNotEnter}
 use Rattle.figures.specs.Headings.{twins}
 use Rattle.reading.specs.Traces.{read_text}
 use Rattle.writing.specs.Laws.{TextsAgree}
-use Rattle.writing.specs.Texts.{trace_text, not_entered, unless_day, write_record}
+use Rattle.writing.specs.Texts.{trace_text, unless_day, write_record}
 use Rattle.reading.proofs.AcceptedFacts.{never, cond_not_ok, reading_accepted}
 use Rattle.writing.proofs.BackText.{text_back}
 

@@ -7,6 +7,7 @@ use Rattle.std.proofs.lemmas.Bool.{and_parts, and_from, eq-eqb, le-ltb, le-leb, 
 use Rattle.std.specs.Fmt.{signed_decimal}
 use Rattle.std.specs.Option.{ok_or}
 use Rattle.kinds.specs.Columns.{Arity, one, two, Each, All, Columns, times, within, fits64}
+use Rattle.kinds.specs.Entries.{not_entered}
 use Rattle.kinds.specs.declared.name.Name.{Name}
 use Rattle.kinds.specs.declared.name.Name.TheVariants.{Cents as cents, Pieces as pieces}
 use Rattle.kinds.specs.Kinds.{Kind, Of, Lawful}
@@ -19,7 +20,7 @@ use Rattle.reading.specs.Parts.{lines, fields}
 use Rattle.refusals.specs.declared.refusal.Refusal.TheVariants.{OutputTooShort}
 use Rattle.writing.specs.Laws.{ReadsBack}
 use Rattle.writing.specs.Texts as Texts
-use Rattle.writing.specs.Texts.{trace_headings, trace_values, trace_lines, trace_text, not_entered}
+use Rattle.writing.specs.Texts.{trace_headings, trace_values, trace_lines, trace_text}
 use Rattle.reading.specs.Traces.{bad_name, all_among, trace_names, none, malformed, number_under, columns_under, check_line, read_line, read_lines, read_all, read_text, entered, refuse, then}
 use Rattle.writer.specs.Values.{shown, line}
 use Rattle.writer.specs.Written.{Writes}

@@ -1,13 +1,13 @@
 -- What is written: trace texts, pulse texts and the text of a refusal.
 use Rattle.std.specs.Prelude.{◌≡◌, ℕ, ◌+◌, ◌≤◌, cond, List, [], ◌∷◌, ◌++◌, map, length, take, drop, ℤ, Some, None, Ok, Err, Option, Result, nat_lt}
-use Rattle.kinds.specs.Columns.{within}
+use Rattle.kinds.specs.Entries.{not_entered}
 use Rattle.kinds.specs.Kinds.{Kind, Of}
 use Rattle.refusals.specs.declared.refusal.Refusal.{Refusal as Refused}
 use Rattle.refusals.specs.declared.refusal.Refusal.TheVariants.{WrongNames, TooManyDays, MayNotEnter, OutputTooShort}
 use Rattle.refusals.specs.declared.refusal.Place.{Place}
 use Rattle.figures.specs.declared.heading.Heading.{Heading}
 use Rattle.figures.specs.declared.heading.Heading.TheVariants.{Day, Pulse, Width, First, State, Refusal, Line, Byte}
-use Rattle.writer.specs.declared.value.Word.{Word}
+use Rattle.shelves.specs.declared.row.Mark.{Mark}
 use Rattle.writer.specs.declared.value.Value.{Value}
 use Rattle.writer.specs.declared.value.Value.TheVariants.{Count, Amount, Word as word}
 use Rattle.figures.specs.Headings.{letters, first, second, if_any, twins, column_headings}
@@ -22,7 +22,7 @@ abbrev pub column_list : (K : Kind) → Of K → List ℤ
 column_list K x = first K.arity x ∷ if_any (second K.arity x)
 
 -- the line of a pulse: its number, width, first day, amount and state
-unfoldable pub pulse_values : (K : Kind) → ℕ → ℕ → ℕ → Of K → Word → List Value
+unfoldable pub pulse_values : (K : Kind) → ℕ → ℕ → ℕ → Of K → Mark → List Value
 pulse_values K pulse width day amount state =
     Count pulse ∷ (Count width ∷ (Count day ∷ (map Amount (column_list K amount) ++ word state ∷ [])))
 
@@ -49,11 +49,6 @@ trace_lines K day (x ∷ xs) = line shown (trace_values K day x) ++ trace_lines 
 
 abbrev pub trace_text : (K : Kind) → List (Of K) → List ℕ
 trace_text K xs = line letters (trace_headings K) ++ trace_lines K 1 xs
-
--- the first day, from `day` on, whose total may not be entered
-abbrev pub not_entered : (K : Kind) → ℕ → List (Of K) → Option ℕ
-not_entered K day [] = None
-not_entered K day (x ∷ xs) = cond (within K.arity K.bound x) (not_entered K (day + 1) xs) (Some day)
 
 abbrev pub unless_day : {X : Type 0} → Option ℕ → Result X Refused → Result X Refused
 unless_day None r = r

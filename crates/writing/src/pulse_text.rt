@@ -11,7 +11,8 @@ use crate::fields::Fields;
 use figures::{Heading, first_column, second_column};
 use kinds::Total;
 use refusals::Place;
-use writer::{Lines, Naming, Short, Value, Word, room_behind};
+use shelves::Mark;
+use writer::{Lines, Naming, Short, Value, room_behind};
 
 // What a pulse text tells of a pulse in one line.
 #[derive(Clone, Copy)]
@@ -20,7 +21,7 @@ pub struct PulseLine<K> {
     pub width: usize,
     pub first: usize,
     pub amount: K,
-    pub state: Word,
+    pub state: Mark,
 }
 
 // The names of a pulse text: those of the kind's columns stand between `first` and `state`.

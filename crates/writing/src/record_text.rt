@@ -1,20 +1,19 @@
 // Writing a record as a trace text.
 ghost use Rattle.std.specs.Prelude.{◌≡◌, ℕ, ◌+◌, ◌^◌, ◌<◌, ◌≤◌, false, List, ◌++◌, map, length};
+ghost use Rattle.kinds.specs.Entries.{not_entered};
 ghost use Rattle.figures.specs.Headings.{letters, twins};
 ghost use Rattle.writing.specs.Fields.{fields};
 ghost use Rattle.writing.specs.Laws.{ReadsBack, TextsAgree};
-ghost use Rattle.writing.specs.Texts.{trace_headings, trace_values, trace_lines, trace_text, not_entered, unless_day, in_room, write_record, WritesRecord};
+ghost use Rattle.writing.specs.Texts.{trace_headings, trace_values, trace_lines, trace_text, unless_day, in_room, write_record, WritesRecord};
 ghost use Rattle.writer.specs.Values.{line, shown};
 ghost use Rattle.writer.specs.Written.{pasted, Leaves, Writes};
 
 use crate::fields::Fields;
 use crate::pulse_text::{first_of, second_of};
 use figures::{Heading, first_column, second_column, twin_names};
-use kinds::Total;
+use kinds::{MOST_DAYS, Total, first_barred};
 use refusals::Refusal;
 use writer::{Lines, Naming, Value, room_behind};
-
-const MOST_DAYS: usize = 1000;
 
 // The names of a trace text: `day` and those of the kind's columns.
 #[tactic(auto, unfolding(crate::specs::Texts::trace_headings))]
@@ -83,21 +82,6 @@ fn put_days<K: Total>(totals: &[K], named: Lines, out: &mut [u8]) -> Lines
     text
 }
 
-// The first day, in order, whose total may not be entered.
-fn first_not_entered<K: Total>(totals: &[K]) -> Option<usize>
-    requires { length totals.now ≤ 1000 }
-    ensures { result ≡ not_entered K.Total.kind 1 (map K.Total.columns totals.now) }
-{
-    let mut day = 0;
-    for total in totals {
-        day += 1;
-        if !total.may_enter() {
-            return Some(day);
-        }
-    }
-    None
-}
-
 // Writes the names line and the lines of all days, and answers their bytes, or nothing where the
 // buffer is too short for all of them.
 fn put_record<K: Total>(totals: &[K], out: &mut [u8]) -> Option<usize>
@@ -118,7 +102,7 @@ fn write_days<K: Total>(totals: &[K], out: &mut [u8]) -> Result<usize, Refusal>
     ensures back { ReadsBack K.Total.kind (map K.Total.columns totals.now) out.new result }
     ensures text { WritesRecord out.old out.new (unless_day (not_entered K.Total.kind 1 (map K.Total.columns totals.now)) (in_room (length out.old) (trace_text K.Total.kind (map K.Total.columns totals.now)))) result }
 {
-    match first_not_entered(totals) {
+    match first_barred(totals) {
         Some(day) => Err(Refusal::MayNotEnter { day }),
         None => put_record(totals, out).ok_or(Refusal::OutputTooShort),
     }

@@ -1,6 +1,6 @@
 use Rattle.std.proofs.Common.{◌≡◌, ◌+◌, map, drop}
-use Rattle.writing.specs.Texts.{not_entered}
-use Rattle.writing.proofs.record_text.first_not_entered.Given as goal
+use Rattle.kinds.specs.Entries.{not_entered}
+use Rattle.kinds.proofs.record.first_barred.Given as goal
 
 abbrev pub invariant-loop-total : goal.invariant-loop-total
 invariant-loop-total g l =
