@@ -3,12 +3,12 @@ use Rattle.std.specs.Prelude.{◌≡◌, ℕ, Bool, true, false, not, ◌&&◌, 
 use Rattle.std.specs.declared.cmp.Ordering.TheVariants.{Less, Equal, Greater}
 use Rattle.std.specs.declared.cmp.Ordering.{Ordering}
 use Rattle.std.specs.Ordering.{ordering_then}
-use Rattle.std.proofs.Common.{ap₂, arith}
+use Rattle.std.proofs.Common.{ap, ap₂, ◌∙◌, sym, arith}
 use Rattle.kinds.specs.Columns.{Arity, one, two, Each, Columns, replaced}
 use Rattle.kinds.specs.declared.name.Name.{Name}
 use Rattle.kinds.specs.Kinds.{Kind, Of, Lawful, Compared}
 use Rattle.kinds.specs.Pairs.{only, alone, below_in, has_in, pair}
-use Rattle.kinds.specs.Singles.{two_is_not_one, compared_number}
+use Rattle.kinds.specs.Singles.{two_is_not_one, alone_only, compared_number}
 
 -- a one-column kind of such an order, bound, range and name
 abbrev single : (ℤ → ℤ → Bool) → ℕ → (ℤ → Bool) → Name → Kind
@@ -90,3 +90,14 @@ both_compared lt lt' irr a b u v Equal Greater p q =
 pub pair_compared : (A B : Kind) → A.arity ≡ one → B.arity ≡ one → Lawful A → (x y : Of A) (u v : Of B) (r s : Ordering) → Compared A.below x y r → Compared B.below u v s → Compared (pair A B).below (only A.arity x, only B.arity u) (only A.arity y, only B.arity v) (ordering_then r s)
 pair_compared A B e f law x y u v r s p q =
     both_compared (below_in A) (below_in B) (λ z. law.irreflexive (alone A.arity z)) _ _ _ _ r s (compared_number A e x y r p) (compared_number B f u v s q)
+
+-- where one part has no value, the pair has none
+pub lacks_first : (A B : Kind) → A.arity ≡ one → (x : Of A) (v w : ℤ) → only A.arity x ≡ v → A.has x ≡ false → (has_in A v && has_in B w) ≡ false
+lacks_first A B e x v w h n =
+    let lacks : has_in A v ≡ false = ap (λ u. A.has (alone A.arity u)) (sym h) ∙ ap A.has (alone_only A.arity e x) ∙ n in
+    grind arith
+
+pub lacks_second : (A B : Kind) → B.arity ≡ one → (y : Of B) (v w : ℤ) → only B.arity y ≡ w → B.has y ≡ false → (has_in A v && has_in B w) ≡ false
+lacks_second A B e y v w h n =
+    let lacks : has_in B w ≡ false = ap (λ u. B.has (alone B.arity u)) (sym h) ∙ ap B.has (alone_only B.arity e y) ∙ n in
+    grind arith

@@ -33,6 +33,7 @@ impl<A: OneColumn, B: OneColumn> Total for Pair<A, B> {
 
     ghost ordered = { λ x y. pair_compared A.Total.kind B.Total.kind A.OneColumn.single B.OneColumn.single A.Total.lawful _ _ _ _ _ _ (A.Total.ordered x.first y.first) (B.Total.ordered x.second y.second) };
 
+    #[tactic(auto, using(crate::specs::Singles::only_nought))]
     fn zero() -> Pair<A, B> {
         Pair {
             first: A::zero(),
@@ -40,10 +41,12 @@ impl<A: OneColumn, B: OneColumn> Total for Pair<A, B> {
         }
     }
 
+    #[tactic(auto, using(crate::specs::Singles::only_within))]
     fn may_enter(self) -> bool {
         self.first.may_enter() && self.second.may_enter()
     }
 
+    #[tactic(auto, using(crate::specs::Singles::gives_number, crate::specs::Singles::only_plus))]
     fn sum(self, other: Pair<A, B>) -> Option<Pair<A, B>> {
         Some(Pair {
             first: self.first.sum(other.first)?,
@@ -51,6 +54,7 @@ impl<A: OneColumn, B: OneColumn> Total for Pair<A, B> {
         })
     }
 
+    #[tactic(auto, using(crate::specs::Singles::gives_number, crate::specs::Singles::only_minus))]
     fn difference(self, other: Pair<A, B>) -> Option<Pair<A, B>> {
         Some(Pair {
             first: self.first.difference(other.first)?,
@@ -58,6 +62,7 @@ impl<A: OneColumn, B: OneColumn> Total for Pair<A, B> {
         })
     }
 
+    #[tactic(auto, using(crate::specs::Singles::only_column))]
     fn column(self, number: u8) -> Option<i64> {
         match number {
             1 => self.first.column(1),
@@ -66,6 +71,7 @@ impl<A: OneColumn, B: OneColumn> Total for Pair<A, B> {
         }
     }
 
+    #[tactic(auto, using(crate::specs::Singles::gives_number_if))]
     fn replace(self, number: u8, value: i64) -> Option<Pair<A, B>> {
         match number {
             1 => Some(Pair {
@@ -80,6 +86,7 @@ impl<A: OneColumn, B: OneColumn> Total for Pair<A, B> {
         }
     }
 
+    #[tactic(auto, using(crate::specs::Singles::only_column))]
     fn name(number: u8) -> Option<Name> {
         match number {
             1 => A::name(1),
