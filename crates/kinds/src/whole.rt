@@ -13,7 +13,7 @@ use std::alloc::AllocError;
 use std::marker::PhantomData;
 
 // What is counted: the name of the column and its entry bound.
-pub trait Unit: Copy + Ord {
+pub trait Unit: Copy {
     ghost BOUND: { ℕ };
 
     ghost NAME: { Named };
@@ -25,7 +25,7 @@ pub trait Unit: Copy + Ord {
     ghost sound: { Sound BOUND };
 }
 
-#[derive(Clone, Copy, PartialEq, Eq, PartialOrd, Ord, Debug)]
+#[derive(Clone, Copy)]
 pub struct CentsUnit;
 
 impl Unit for CentsUnit {
@@ -40,7 +40,7 @@ impl Unit for CentsUnit {
     const NAME: Name = Name::Cents;
 }
 
-#[derive(Clone, Copy, PartialEq, Eq, PartialOrd, Ord, Debug)]
+#[derive(Clone, Copy)]
 pub struct PiecesUnit;
 
 impl Unit for PiecesUnit {
@@ -56,7 +56,8 @@ impl Unit for PiecesUnit {
 }
 
 // A whole number of one unit, of 64 bits.
-#[derive(Copy, PartialEq, Eq, PartialOrd, Ord, Debug)]
+#[derive(Copy)]
+#[derive_where(PartialEq, Eq, PartialOrd, Ord, Debug)]
 pub struct Whole<U> {
     value: i64,
     unit: PhantomData<U>,
