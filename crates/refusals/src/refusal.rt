@@ -43,7 +43,7 @@ pub struct Place {
 }
 
 impl Refusal {
-    // The number under which the table lists the case.
+    // The number under which the table lists the case. Stays a method: a `From` would lose the day.
     pub fn number(self) -> u8
         ensures { result ≡ number self }
     {

@@ -96,6 +96,7 @@ fn write_lines<K: Total, S: Shelf<K>>(
     ensures stop { Stopped named.at (row_lines K.kind (state_of S.slots S.outside sheet.now).count (state_of S.slots S.outside sheet.now).slots) out.old out.new (told (λ t. t.at) (λ e. e) result) }
 {
     let mut text = named;
+    // Not over `1..=`, for the same reason as above.
     for done in 0..sheet.pulses() {
         text = write_line(sheet, done + 1, text, out)?;
     }

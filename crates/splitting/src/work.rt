@@ -29,6 +29,9 @@ impl<K: Total> WorkEntry<K> {
     }
 }
 
+// Work lists stay slices that are lent at each call: take has no list of its own, and a struct round
+// a borrowed one would be made anew for every call.
+
 #[tactic(auto, unfolding(crate::specs::Work::view))]
 pub(crate) fn total_at<K: Total>(work: &[WorkEntry<K>], day: usize) -> K
     requires { day < length work.now }
