@@ -1,4 +1,4 @@
-use Rattle.std.proofs.Common.{◌≡◌, true, false, sym, ap, ◌∙◌, subst}
+use Rattle.std.proofs.Common.{true, false, sym, ap, ◌∙◌, subst}
 use Rattle.kinds.specs.Columns.{minus}
 use Rattle.kinds.specs.Kinds.{Gives}
 use Rattle.kinds.specs.Orders.{lt_is_below}
