@@ -26,61 +26,63 @@ fn keep<K: Total>(totals: &mut [K], place: usize, total: K)
     }
 }
 
-// Reads the lines of values, of which the first starts at byte `start` of the text, into the list
-// as far as it goes, and answers their number.
-// Stays a loop over cuts: a walk over lines would have to tell which of them are ended.
-fn read_values<K: Total>(
-    names: &[u8],
-    values: &[u8],
-    start: usize,
-    totals: &mut [K],
-) -> Result<usize, LineFault>
-    requires { start + length values.now < 2 ^ 62 }
-    ensures answer { ReadsLines K.Total.kind K.Total.columns totals.old totals.new (read_lines K.Total.kind (fields names.now) 1 start (lines values.now)) result }
-    ensures place { Placed result }
-{
-    let mut days = 0;
-    let mut at = start;
-    let mut left = values;
-    loop {
-        let (line, more) = cut(left, LINE_FEED);
-        let Some(next) = more else {
-            if line.is_empty() {
-                return Ok(days);
-            }
-            return Err(LineFault::BadCount {
-                line: days + 2,
-                byte: at,
-            });
-        };
-        let day_line = DayLine {
-            names,
-            values: line,
-            day: days + 1,
-            start: at,
-        };
-        let total = day_line.read::<K>()?;
-        keep(totals, days, total);
-        days += 1;
-        at += line.len() + 1;
-        left = next;
+// The lines of values of a text, under its names line.
+#[derive(Clone, Copy)]
+struct Body<'t> {
+    names: &'t [u8],
+    values: &'t [u8],
+    ghost fits: { length names.now + 1 + length values.now < 2 ^ 62 },
+}
+
+impl<'t> Body<'t> {
+    // The number of its days, once all are checked.
+    fn count_days<K: Total>(&self) -> Result<usize, LineFault>
+        ensures answer { told (λ n. n) line_found result ≡ counted (read_lines K.Total.kind (fields self.now.names.now) 1 (length self.now.names.now + 1) (lines self.now.values.now)) }
+        ensures place { Placed result }
+    {
+        let mut nothing: [K; 0] = [];
+        self.read_into(&mut nothing)
+    }
+
+    // Reads its days into the list as far as it goes, and answers their number.
+    // Stays a loop over cuts: a walk over lines would have to tell which of them are ended.
+    fn read_into<K: Total>(&self, totals: &mut [K]) -> Result<usize, LineFault>
+        ensures answer { ReadsLines K.Total.kind K.Total.columns totals.old totals.new (read_lines K.Total.kind (fields self.now.names.now) 1 (length self.now.names.now + 1) (lines self.now.values.now)) result }
+        ensures place { Placed result }
+    {
+        let mut days = 0;
+        let mut at = self.names.len() + 1;
+        let mut left = self.values;
+        loop {
+            let (line, more) = cut(left, LINE_FEED);
+            let Some(next) = more else {
+                if line.is_empty() {
+                    return Ok(days);
+                }
+                return Err(LineFault::BadCount {
+                    line: days + 2,
+                    byte: at,
+                });
+            };
+            let day_line = DayLine {
+                names: self.names,
+                values: line,
+                day: days + 1,
+                start: at,
+            };
+            let total = day_line.read::<K>()?;
+            keep(totals, days, total);
+            days += 1;
+            at += line.len() + 1;
+            left = next;
+        }
     }
 }
 
-// The number of those lines, once all are checked.
-fn count_days<K: Total>(names: &[u8], values: &[u8], start: usize) -> Result<usize, LineFault>
-    requires { start + length values.now < 2 ^ 62 }
-    ensures answer { told (λ n. n) line_found result ≡ counted (read_lines K.Total.kind (fields names.now) 1 start (lines values.now)) }
-    ensures place { Placed result }
-{
-    let mut nothing: [K; 0] = [];
-    read_values::<K>(names, values, start, &mut nothing)
-}
-
-// The names line of a text and the lines behind it, once the names are checked.
-fn split_names<K: Total>(text: &[u8]) -> Result<(&[u8], &[u8]), LineFault>
+// A text split behind its names line, once the names are checked.
+fn split_names<K: Total>(text: &[u8]) -> Result<Body<'_>, LineFault>
     requires { length text.now < 2 ^ 62 }
-    ensures answer { NamesSplit K.Total.kind text.now (told (λ p. (p.0.now, p.1.now)) line_found result) }
+    ensures answer { NamesSplit K.Total.kind text.now (told (λ b. (b.names.now, b.values.now)) line_found result) }
     ensures place { Placed result }
 {
     let (names, more) = cut(text, LINE_FEED);
@@ -93,7 +95,7 @@ fn split_names<K: Total>(text: &[u8]) -> Result<(&[u8], &[u8]), LineFault>
         return Err(missing);
     };
     if all_named::<K>(names) {
-        Ok((names, values))
+        Ok(Body { names, values })
     } else {
         Err(missing)
     }
@@ -105,13 +107,12 @@ fn read_lines<K: Total>(text: &[u8], totals: &mut [K]) -> Result<usize, FileFaul
     ensures answer { Reads K.Total.kind K.Total.columns totals.old totals.new (within_room (length totals.old) (read_all K.Total.kind (lines text.now))) result }
     ensures stage { OfReading result }
 {
-    let (names, values) = split_names::<K>(text)?;
-    let start = names.len() + 1;
-    let days = count_days::<K>(names, values, start)?;
+    let body = split_names::<K>(text)?;
+    let days = body.count_days::<K>()?;
     if totals.len() < days {
         return Err(FileFault::ReadingWhole(Refusal::ListTooShort));
     }
-    read_values::<K>(names, values, start, totals)?;
+    body.read_into(totals)?;
     Ok(days)
 }
 
