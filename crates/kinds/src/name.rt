@@ -23,7 +23,8 @@ impl From<Name> for u8 {
     }
 }
 
-// The code of the name of a kind's column, 0 where there is no such column.
+// The code of the name of a kind's column, 0 where there is no such column: the numbers by which
+// names are known outside the code.
 pub fn name_code<K: Total>(number: u8) -> u8
     ensures { result ≡ code_of (column K.kind.arity K.kind.names number) }
 {

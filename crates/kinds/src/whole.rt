@@ -64,7 +64,7 @@ pub struct Whole<U> {
     ghost fits: { fits64 value ≡ true },
 }
 
-// By hand: none is derived for a struct with a ghost field.
+// By hand: none is derived for a generic struct with a ghost field.
 impl<U: Copy> Clone for Whole<U> {
     ghost is_clone = { λ x y. y ≡ x };
 

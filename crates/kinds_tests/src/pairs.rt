@@ -3,8 +3,6 @@ use crate::name_of;
 use kinds::{Cents, Mobile, Pair, Pieces, Total};
 use std::cmp::Ordering;
 
-const MOST: i64 = 9_223_372_036_854_775_807;
-
 fn mobile(cents: i64, pieces: i64) -> Mobile {
     Pair {
         first: Cents::new(cents),
@@ -33,10 +31,10 @@ fn both_parts_need_a_value(rt: HostRuntime) {
         shown(mobile(1, 2).difference(mobile(10, 20))),
         Some((-9, -18))
     );
-    assert_eq!(rt; shown(mobile(MOST, 0).sum(mobile(1, 0))), None);
-    assert_eq!(rt; shown(mobile(0, MOST).sum(mobile(0, 1))), None);
-    assert_eq!(rt; shown(mobile(-2, 0).difference(mobile(MOST, 0))), None);
-    assert_eq!(rt; shown(mobile(0, -2).difference(mobile(0, MOST))), None);
+    assert_eq!(rt; shown(mobile(i64::MAX, 0).sum(mobile(1, 0))), None);
+    assert_eq!(rt; shown(mobile(0, i64::MAX).sum(mobile(0, 1))), None);
+    assert_eq!(rt; shown(mobile(-2, 0).difference(mobile(i64::MAX, 0))), None);
+    assert_eq!(rt; shown(mobile(0, -2).difference(mobile(0, i64::MAX))), None);
 }
 
 #[test]

@@ -3,10 +3,6 @@ use crate::name_of;
 use kinds::{Cents, Pieces, Total};
 use std::cmp::Ordering;
 
-const LEAST: i64 = -9_223_372_036_854_775_808;
-
-const MOST: i64 = 9_223_372_036_854_775_807;
-
 fn cents(value: i64) -> Cents {
     Cents::new(value)
 }
@@ -21,26 +17,26 @@ fn entry_stops_at_the_bound(rt: HostRuntime) {
     assert!(rt; cents(-1_000_000_000_000).may_enter());
     assert!(rt; !cents(1_000_000_000_001).may_enter());
     assert!(rt; !cents(-1_000_000_000_001).may_enter());
-    assert!(rt; !cents(LEAST).may_enter());
-    assert!(rt; !cents(MOST).may_enter());
+    assert!(rt; !cents(i64::MIN).may_enter());
+    assert!(rt; !cents(i64::MAX).may_enter());
     assert!(rt; Pieces::new(-1_000_000_000).may_enter());
     assert!(rt; !Pieces::new(1_000_000_001).may_enter());
 }
 
 #[test]
 fn sums_end_with_64_bits(rt: HostRuntime) {
-    assert_eq!(rt; shown(cents(MOST).sum(cents(1))), None);
-    assert_eq!(rt; shown(cents(LEAST).sum(cents(-1))), None);
-    assert_eq!(rt; shown(cents(MOST).sum(cents(LEAST))), Some(-1));
-    assert_eq!(rt; shown(cents(LEAST).difference(cents(1))), None);
-    assert_eq!(rt; shown(cents(0).difference(cents(LEAST))), None);
-    assert_eq!(rt; shown(cents(-1).difference(cents(LEAST))), Some(MOST));
+    assert_eq!(rt; shown(cents(i64::MAX).sum(cents(1))), None);
+    assert_eq!(rt; shown(cents(i64::MIN).sum(cents(-1))), None);
+    assert_eq!(rt; shown(cents(i64::MAX).sum(cents(i64::MIN))), Some(-1));
+    assert_eq!(rt; shown(cents(i64::MIN).difference(cents(1))), None);
+    assert_eq!(rt; shown(cents(0).difference(cents(i64::MIN))), None);
+    assert_eq!(rt; shown(cents(-1).difference(cents(i64::MIN))), Some(i64::MAX));
     assert_eq!(rt; shown(cents(7).difference(cents(9))), Some(-2));
 }
 
 #[test]
 fn compares_as_whole_numbers(rt: HostRuntime) {
-    assert_eq!(rt; cents(LEAST).cmp(&cents(MOST)), Ordering::Less);
+    assert_eq!(rt; cents(i64::MIN).cmp(&cents(i64::MAX)), Ordering::Less);
     assert_eq!(rt; cents(3).cmp(&cents(3)), Ordering::Equal);
     assert_eq!(rt; cents(3).cmp(&cents(-3)), Ordering::Greater);
 }
@@ -52,7 +48,7 @@ fn has_column_one_alone(rt: HostRuntime) {
     assert_eq!(rt; cents(5).column(2), None);
     assert_eq!(rt; cents(5).column(3), None);
     assert_eq!(rt; cents(5).column(255), None);
-    assert_eq!(rt; shown(cents(5).replace(1, LEAST)), Some(LEAST));
+    assert_eq!(rt; shown(cents(5).replace(1, i64::MIN)), Some(i64::MIN));
     assert_eq!(rt; shown(cents(5).replace(2, 1)), None);
     assert_eq!(rt; shown(Some(Cents::zero())), Some(0));
 }

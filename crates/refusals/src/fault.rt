@@ -154,7 +154,7 @@ impl FileFault {
         self.refusal().number()
     }
 
-    // Where in the text; line 0, byte 0 where there is no place.
+    // Where in the text. Stays line 0, byte 0 where there is no place: texts of refusals say so.
     pub fn place(self) -> Place
         ensures { result ≡ place_of self }
     {

@@ -65,7 +65,7 @@ impl Refusal {
         }
     }
 
-    // The day that the refusal names, 0 where it names none.
+    // The day that the refusal names. Stays 0 where it names none: days count from 1.
     pub fn day(self) -> usize
         ensures { result ≡ day self }
     {

@@ -77,7 +77,7 @@ fn split_text(bytes: &[u8]) -> (&[u8], &[u8])
     }
 }
 
-// A plain decimal number below 2^64, without leading zeros.
+// A plain decimal number below 2^64, without leading zeros. By hand: `parse` takes a plus and zeros.
 fn number_of(word: &[u8]) -> Option<usize> {
     if let [] | [b'0', _, ..] = word {
         return None;

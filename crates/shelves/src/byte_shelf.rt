@@ -24,7 +24,7 @@ fn slots_in(len: usize, size: usize) -> usize
     len / size
 }
 
-// Where a slot begins.
+// Where a slot begins. By arithmetic: the library's chunks step over all slots before it.
 fn start_of(slot: usize, size: usize) -> usize
     requires { slot * size < 2 ^ 64 }
     ensures { result ≡ slot * size }

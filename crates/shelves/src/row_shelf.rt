@@ -25,6 +25,7 @@ fn put_row<K: Total>(rows: &mut [Row<K>], slot: usize, row: Row<K>) -> Result<()
     ensures slots { shown_rows K.kind K.columns rows.new ≡ slice_set (shown_rows K.kind K.columns rows.old) slot (shown K.kind K.columns row) }
     ensures rows { rows.new ≡ slice_set rows.old slot row }
 {
+    // By index: through `get_mut` the proof that no other row changes did not close.
     if slot < rows.len() {
         rows[slot] = row;
         Ok(())

@@ -16,7 +16,7 @@ pub struct Few {
 fn number(value: i64) -> Option<Few>
     ensures { Gives few (λ x. x.value) value result }
 {
-    if value >= -5_000_000 && value <= 5_000_000 {
+    if (-5_000_000..=5_000_000).contains(&value) {
         Some(Few { value })
     } else {
         None
@@ -39,7 +39,7 @@ impl Total for Few {
     }
 
     fn may_enter(self) -> bool {
-        self.value >= -1 && self.value <= 1
+        (-1..=1).contains(&self.value)
     }
 
     fn sum(self, other: Few) -> Option<Few> {

@@ -2,16 +2,12 @@
 // the number, the line and the byte of the refusal. Then what the writer of texts writes.
 #![tactic(auto)]
 
-use kinds::{Cents, CentsUnit, Pair, Pieces, PiecesUnit, Total, Whole};
+use kinds::{Cents, Mobile, Pair, Paper, Pieces, Total};
 use std::io;
 use text::{
     FileFault, Lines, Mark, Naming, PulseLine, Value, field, read_figure, read_trace, write_pulse,
     write_pulse_names, write_refusal, write_trace,
 };
-
-type Paper = Cents;
-
-type Mobile = Pair<Cents, Pieces>;
 
 type Twins = Pair<Cents, Cents>;
 
@@ -33,21 +29,20 @@ fn show_fault(rt: &HostRuntime, fault: FileFault) -> io::Result<()> {
 
 // Read a text into a list of four totals.
 fn read_paper(rt: &HostRuntime, label: &str, text: &[u8]) -> io::Result<()> {
-    let zero = Paper::zero();
-    let mut totals = [zero, zero, zero, zero];
-    read_into(rt, label, text, &mut totals)
+    read_four::<Paper>(rt, label, text)
 }
 
 fn read_mobile(rt: &HostRuntime, label: &str, text: &[u8]) -> io::Result<()> {
-    let zero = Mobile::zero();
-    let mut totals = [zero, zero, zero, zero];
-    read_into(rt, label, text, &mut totals)
+    read_four::<Mobile>(rt, label, text)
 }
 
 fn read_twins(rt: &HostRuntime, label: &str, text: &[u8]) -> io::Result<()> {
-    let zero = Twins::zero();
-    let mut totals = [zero, zero, zero, zero];
-    read_into(rt, label, text, &mut totals)
+    read_four::<Twins>(rt, label, text)
+}
+
+fn read_four<K: Total>(rt: &HostRuntime, label: &str, text: &[u8]) -> io::Result<()> {
+    let mut totals = vec![in rt.alloc(); K::zero(); 4]?;
+    read_into(rt, label, text, totals.as_mut_slice())
 }
 
 fn read_into<K: Total>(
@@ -248,8 +243,8 @@ fn records(rt: &HostRuntime) -> io::Result<()> {
     let refused = write_trace(&large, &mut short);
     show_written(rt, "may not be entered", refused, &short)?;
     let twins = [Pair {
-        first: Whole::<CentsUnit>::new(1),
-        second: Whole::<CentsUnit>::new(2),
+        first: Cents::new(1),
+        second: Cents::new(2),
     }];
     let refused = write_trace(&twins, &mut short);
     show_written(rt, "twin names", refused, &short)
@@ -257,8 +252,8 @@ fn records(rt: &HostRuntime) -> io::Result<()> {
 
 fn mobile(cents: i64, pieces: i64) -> Mobile {
     Pair {
-        first: Whole::<CentsUnit>::new(cents),
-        second: Whole::<PiecesUnit>::new(pieces),
+        first: Cents::new(cents),
+        second: Pieces::new(pieces),
     }
 }
 
