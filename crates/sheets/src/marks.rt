@@ -20,7 +20,7 @@ impl Widths {
     fn holds(self, width: usize) -> bool
         ensures { result ≡ nat_le self.lowest width && nat_le width self.highest }
     {
-        self.lowest <= width && width <= self.highest
+        (self.lowest..=self.highest).contains(&width)
     }
 }
 
@@ -76,7 +76,7 @@ fn mark_row<K: Total, S: Shelf<K>>(shelf: &mut S, slot: usize, row: HeldRow<K>, 
         return 0;
     }
     let marked = HeldRow { mark, ..row };
-    let _ = shelf.put(slot, &marked.row());
+    shelf.put(slot, &marked.row()).unwrap();
     1
 }
 
@@ -91,7 +91,7 @@ fn mark_within<K: Total, S: Shelf<K>>(
     ensures outside { S.outside shelf.new ≡ S.outside shelf.old }
 {
     let row = held_row(shelf, slot)?;
-    if widths.holds(row.width as usize) {
+    if widths.holds(usize::from(row.width)) {
         Ok(mark_row(shelf, slot, row, mark))
     } else {
         Ok(0)
