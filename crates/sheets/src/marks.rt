@@ -33,18 +33,16 @@ pub(crate) struct HeldRow<K> {
     pub(crate) amount: K,
 }
 
-impl<K: Total> HeldRow<K> {
-    // The row by its numbers, as a shelf takes it.
-    pub(crate) fn row(self) -> Row<K>
-        ensures first { result.first ≡ self.first }
-        ensures width { result.width ≡ self.width }
-        ensures shown { shown K.kind K.columns result ≡ Some (entry_of K.kind K.columns self) }
-    {
+// The row by its numbers, as a shelf takes it.
+impl<K: Total> From<HeldRow<K>> for Row<K> {
+    ghost from_gives = { λ held row. (row.first ≡ held.first) × (row.width ≡ held.width) × (shown K.kind K.columns row ≡ Some (entry_of K.kind K.columns held)) };
+
+    fn from(held: HeldRow<K>) -> Row<K> {
         Row {
-            first: self.first,
-            width: self.width,
-            mark: u8::from(self.mark),
-            amount: self.amount,
+            first: held.first,
+            width: held.width,
+            mark: u8::from(held.mark),
+            amount: held.amount,
         }
     }
 }
@@ -76,7 +74,7 @@ fn mark_row<K: Total, S: Shelf<K>>(shelf: &mut S, slot: usize, row: HeldRow<K>, 
         return 0;
     }
     let marked = HeldRow { mark, ..row };
-    shelf.put(slot, &marked.row()).unwrap();
+    shelf.put(slot, &Row::from(marked)).unwrap();
     1
 }
 
