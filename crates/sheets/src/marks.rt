@@ -20,7 +20,7 @@ impl Widths {
     fn holds(self, width: usize) -> bool
         ensures { result ≡ nat_le self.lowest width && nat_le width self.highest }
     {
-        self.lowest <= width && width <= self.highest
+        (self.lowest..=self.highest).contains(&width)
     }
 }
 
@@ -33,18 +33,16 @@ pub(crate) struct HeldRow<K> {
     pub(crate) amount: K,
 }
 
-impl<K: Total> HeldRow<K> {
-    // The row by its numbers, as a shelf takes it.
-    pub(crate) fn row(self) -> Row<K>
-        ensures first { result.first ≡ self.first }
-        ensures width { result.width ≡ self.width }
-        ensures shown { shown K.kind K.columns result ≡ Some (entry_of K.kind K.columns self) }
-    {
+// The row by its numbers, as a shelf takes it.
+impl<K: Total> From<HeldRow<K>> for Row<K> {
+    ghost from_gives = { λ held row. (row.first ≡ held.first) × (row.width ≡ held.width) × (shown K.kind K.columns row ≡ Some (entry_of K.kind K.columns held)) };
+
+    fn from(held: HeldRow<K>) -> Row<K> {
         Row {
-            first: self.first,
-            width: self.width,
-            mark: u8::from(self.mark),
-            amount: self.amount,
+            first: held.first,
+            width: held.width,
+            mark: u8::from(held.mark),
+            amount: held.amount,
         }
     }
 }
@@ -76,7 +74,7 @@ fn mark_row<K: Total, S: Shelf<K>>(shelf: &mut S, slot: usize, row: HeldRow<K>, 
         return 0;
     }
     let marked = HeldRow { mark, ..row };
-    let _ = shelf.put(slot, &marked.row());
+    shelf.put(slot, &Row::from(marked)).unwrap();
     1
 }
 
@@ -91,7 +89,7 @@ fn mark_within<K: Total, S: Shelf<K>>(
     ensures outside { S.outside shelf.new ≡ S.outside shelf.old }
 {
     let row = held_row(shelf, slot)?;
-    if widths.holds(row.width as usize) {
+    if widths.holds(usize::from(row.width)) {
         Ok(mark_row(shelf, slot, row, mark))
     } else {
         Ok(0)

@@ -12,7 +12,7 @@ use crate::sheet::{Sheet, Stop};
 use crate::standing::standing_on;
 use kinds::Total;
 use refusals::Refusal;
-use shelves::{Mark, Shelf, Stretch};
+use shelves::{Mark, Row, Shelf, Stretch};
 
 // A pulse as a sheet lists it.
 #[derive(Clone, Copy)]
@@ -85,7 +85,7 @@ fn listed_pulse<K: Total, S: Shelf<K>>(
     ensures { Listed K.kind K.columns (state_of S.slots S.outside sheet.now) number result }
 {
     let row = held_row(&sheet.shelf, number - 1)?;
-    let stretch = row.row().stretch().ok_or(Stop::Unreachable)?;
+    let stretch = Row::from(row).stretch().ok_or(Stop::Unreachable)?;
     Ok(ListedPulse {
         stretch,
         mark: row.mark,

@@ -17,8 +17,8 @@ use shelves::{Mark, Shelf};
 fn covered<K: Total>(row: HeldRow<K>, day: usize) -> bool
     ensures { result ≡ nat_le row.first day && nat_lt day (row.first + row.width) }
 {
-    let first = row.first as usize;
-    first <= day && day < first + row.width as usize
+    let first = usize::from(row.first);
+    (first..first + usize::from(row.width)).contains(&day)
 }
 
 // The sum with what the row adds to it on a day: its amount, if it is marked in and covers the day.

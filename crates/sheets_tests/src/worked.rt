@@ -1,6 +1,7 @@
 // The record 5, -5, 5, -5 in cents over lent rows.
 use histories::{Step, sheet_after};
 use kinds::{Cents, Total};
+use refusals::Refusal;
 use sheets::{Sheet, Stop, WorkEntry};
 use shelves::{Row, RowShelf};
 
@@ -10,14 +11,6 @@ fn cents(value: i64) -> Cents {
 
 fn number(total: Result<Cents, Stop>) -> Option<i64> {
     total.ok()?.column(1)
-}
-
-fn code(answer: Result<usize, Stop>) -> usize {
-    match answer {
-        Ok(n) => n,
-        Err(Stop::Refused(refusal)) => 100 + refusal.number() as usize,
-        Err(Stop::Unreachable) => 200,
-    }
 }
 
 #[test]
@@ -56,8 +49,14 @@ fn width_three_out(rt: HostRuntime) {
     assert_eq!(rt; number(sheet.standing(3)), Some(10));
     assert_eq!(rt; number(sheet.standing(4)), Some(0));
     assert_eq!(rt; number(sheet.swing()), Some(30));
-    assert_eq!(rt; code(sheet.remove(0, 4)), 105);
-    assert_eq!(rt; code(sheet.restore_one(3)), 1);
+    assert_eq!(rt;
+        sheet.remove(0, 4),
+        Err(Stop::Refused(Refusal::WidthsOutOfRange))
+    );
+    assert_eq!(rt; sheet.restore_one(3), Ok(1));
     assert_eq!(rt; number(sheet.swing()), Some(40));
-    assert_eq!(rt; code(sheet.restore_one(4)), 106);
+    assert_eq!(rt;
+        sheet.restore_one(4),
+        Err(Stop::Refused(Refusal::NoSuchPulse))
+    );
 }

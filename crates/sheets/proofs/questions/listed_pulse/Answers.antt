@@ -18,4 +18,4 @@ returns-in_err-stretch g c =
     let u = ok_or_stops c.stretch.result c.in_err-stretch.field-0.0 c.in_err-stretch.ensures.value in
     rw (p.1, p.2, u)
     (no_stretch g.K.Total.kind g.met.K.Total.lawful (state_of g.S.Shelf.slots g.S.Shelf.outside c.args.sheet.now) c.args.number c.requires.0 c.requires.1 _ c.in_ok-row.ensures.1
-    (rw (c.row.ensures.first, c.row.ensures.width) at (subst (StretchOf c.row.result.first c.row.result.width) c.in_err-stretch.ensures.ok_part c.stretch.ensures)))
+    (rw (c.from.ensures.0, c.from.ensures.1) at (subst (StretchOf c.from.result.first c.from.result.width) c.in_err-stretch.ensures.ok_part c.stretch.ensures)))
