@@ -131,6 +131,7 @@ fn read_whole<K: Total>(text: &[u8], totals: &mut [K]) -> Result<usize, FileFaul
 }
 
 // The same, by the law of refusals: a refusal is the first condition that the text meets.
+// Apart from the public call, which has no proof file: an edit of that call is then refused by a fact.
 fn read_judged<K: Total>(text: &[u8], totals: &mut [K]) -> Result<usize, FileFault>
     ensures answer { Reads K.Total.kind K.Total.columns totals.old totals.new (read_text K.Total.kind (length totals.old) text.now) result }
     ensures stage { OfReading result }
