@@ -45,7 +45,7 @@ impl<'t> Body<'t> {
     }
 
     // Reads its days into the list as far as it goes, and answers their number.
-    // Stays a loop over cuts: a walk over lines would have to tell which of them are ended.
+    // Stays a loop over cuts: over `split_inclusive` the proof did not close.
     fn read_into<K: Total>(&self, totals: &mut [K]) -> Result<usize, LineFault>
         ensures answer { ReadsLines K.Total.kind K.Total.columns totals.old totals.new (read_lines K.Total.kind (fields self.now.names.now) 1 (length self.now.names.now + 1) (lines self.now.values.now)) result }
         ensures place { Placed result }
