@@ -22,7 +22,7 @@ impl Digits {
         Digits {
             minus,
             count: 1,
-            value: d as u64,
+            value: u64::from(d),
         }
     }
 
@@ -34,7 +34,7 @@ impl Digits {
         Digits {
             minus: self.minus,
             count: self.count + 1,
-            value: self.value * 10 + d as u64,
+            value: self.value * 10 + u64::from(d),
         }
     }
 

@@ -60,8 +60,8 @@ pub(crate) fn find_under<'v>(
     None
 }
 
-// The byte at which that field starts, where the values line starts at byte `at` of the text; 0
-// where there is none.
+// The byte at which that field starts, where the values line starts at byte `at` of the text.
+// 0 for none, as its definition has it.
 pub(crate) fn start_under(at: usize, names: &[u8], values: &[u8], name: &[u8]) -> usize
     requires { at + length values.now < 2 ^ 63 }
     ensures { result ≡ start_under at (fields names.now) (fields values.now) name.now }

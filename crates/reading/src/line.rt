@@ -92,7 +92,8 @@ impl<'t> DayLine<'t> {
         }
     }
 
-    // The number under a name, 0 where there is none.
+    // The number under a name.
+    // 0 for none, as its definition has it.
     fn number_under(&self, name: &[u8]) -> i64
         ensures { result ≡ number_under (fields self.now.names.now) (fields self.now.values.now) name.now }
     {
@@ -108,7 +109,8 @@ impl<'t> DayLine<'t> {
         self.number_under(first_column::<K>().letters())
     }
 
-    // The number under the name of its second column, 0 where it has none.
+    // The number under the name of its second column.
+    // 0 for none, as its definition has it.
     fn second_number<K: Total>(&self) -> i64
         ensures { result ≡ number_if (fields self.now.names.now) (fields self.now.values.now) (heading_if (second_of K.Total.kind.arity K.Total.kind.names)) }
     {

@@ -45,7 +45,7 @@ impl<'t> Body<'t> {
     }
 
     // Reads its days into the list as far as it goes, and answers their number.
-    // Stays a loop over cuts: a walk over lines would have to tell which of them are ended.
+    // Stays a loop over cuts: over `split_inclusive` the proof did not close.
     fn read_into<K: Total>(&self, totals: &mut [K]) -> Result<usize, LineFault>
         ensures answer { ReadsLines K.Total.kind K.Total.columns totals.old totals.new (read_lines K.Total.kind (fields self.now.names.now) 1 (length self.now.names.now + 1) (lines self.now.values.now)) result }
         ensures place { Placed result }
@@ -131,6 +131,7 @@ fn read_whole<K: Total>(text: &[u8], totals: &mut [K]) -> Result<usize, FileFaul
 }
 
 // The same, by the law of refusals: a refusal is the first condition that the text meets.
+// Apart from the public call, which has no proof file: an edit of that call is then refused by a fact.
 fn read_judged<K: Total>(text: &[u8], totals: &mut [K]) -> Result<usize, FileFault>
     ensures answer { Reads K.Total.kind K.Total.columns totals.old totals.new (read_text K.Total.kind (length totals.old) text.now) result }
     ensures stage { OfReading result }

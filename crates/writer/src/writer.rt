@@ -1,6 +1,6 @@
 // The writer of texts: the names line first, then lines of values, then the end. The states are
 // moved numbers; the buffer is lent at each call.
-ghost use Rattle.std.specs.Prelude.{◌≡◌, ℕ, ◌+◌, ◌≤◌, Bool, List, [], ◌∷◌, ◌++◌, length, if◌then◌else◌};
+ghost use Rattle.std.specs.Prelude.{◌≡◌, ℕ, ◌+◌, ◌≤◌, Bool, List, [], ◌∷◌, ◌++◌, length};
 ghost use Rattle.refusals.specs.declared.refusal.Refusal.TheVariants.{OutputTooShort};
 ghost use Rattle.refusals.specs.declared.fault.FileFault.TheVariants.{Writing};
 ghost use Rattle.figures.specs.Headings.{letters};
@@ -38,13 +38,13 @@ pub fn room_behind<S: Shown>(items: &[S], room: usize) -> Option<usize>
 }
 
 // Writes an item and the byte behind it.
-fn put_field<S: Shown>(item: &S, last: bool, out: &mut [u8], at: usize) -> usize
+fn put_field<S: Shown>(item: &S, behind: u8, out: &mut [u8], at: usize) -> usize
     requires { at + length (S.Shown.bytes item.now) + 1 ≤ length out.old }
-    ensures bytes { out.new ≡ pasted at (S.Shown.bytes item.now ++ ((if last then 10 else 44) ∷ [])) out.old }
+    ensures bytes { out.new ≡ pasted at (S.Shown.bytes item.now ++ (behind ∷ [])) out.old }
     ensures end { result ≡ at + length (S.Shown.bytes item.now) + 1 }
 {
     let end = put_bytes(out, at, item.text(&mut Buffer::new()));
-    put_byte(out, end, if last { LINE_FEED } else { COMMA });
+    put_byte(out, end, behind);
     end + 1
 }
 
@@ -54,15 +54,15 @@ fn put_line<S: Shown>(items: &[S], out: &mut [u8], at: usize) -> usize
     ensures bytes { out.new ≡ pasted at (line S.Shown.bytes items.now) out.old }
     ensures end { result ≡ at + length (line S.Shown.bytes items.now) }
 {
-    if items.is_empty() {
+    let Some((last, rest)) = items.split_last() else {
         put_byte(out, at, LINE_FEED);
         return at + 1;
-    }
+    };
     let mut end = at;
-    for (i, item) in items.iter().enumerate() {
-        end = put_field(item, i + 1 == items.len(), out, end);
+    for item in rest {
+        end = put_field(item, COMMA, out, end);
     }
-    end
+    put_field(last, LINE_FEED, out, end)
 }
 
 // Writes a line of these items if it fits, and answers the place behind it.

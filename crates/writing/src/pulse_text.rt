@@ -145,7 +145,7 @@ fn refusal_values(number: u8, place: Place) -> [Value; 3]
     ensures { result ≡ refusal_values number place }
 {
     [
-        Value::Count(number as usize),
+        Value::Count(usize::from(number)),
         Value::Count(place.line),
         Value::Count(place.byte),
     ]
