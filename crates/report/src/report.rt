@@ -15,7 +15,7 @@ use sheets::{Sheet, Stop, WorkEntry};
 use shelves::{Row, RowShelf, Shelf};
 use writing::write_refusal;
 
-const WORK_ENTRIES: usize = 1002;
+const WORK_ENTRIES: usize = MOST_DAYS + 2;
 
 // Room for the report on any text.
 pub const MOST_REPORT_BYTES: usize = 65_536;
