@@ -11,10 +11,10 @@ returns g c =
     let capacity : length (shown_rows g.K.Total.kind g.K.Total.columns c.new-sheet.result.shelf.rows.now) ≡ length c.args.lists.now.rows =
     ap (λ (s : State). length s.slots) c.new-sheet.ensures.answer ∙ (ap length c.over.ensures.slots ∙ length-map c.args.lists.now.rows (shown g.K.Total.kind g.K.Total.columns)) in
     let p =
-    pulses_written g.K.Total.kind c.args.text.now (length c.args.lists.now.totals) xs c.told-lists c.in_ok-days.ensures.answer.0 (length c.args.lists.now.work)
+    pulses_written g.K.Total.kind c.args.text.now (length c.args.lists.now.totals) xs (omega arith) c.in_ok-days.ensures.answer.0 (length c.args.lists.now.work)
     (length (shown_rows g.K.Total.kind g.K.Total.columns c.new-sheet.result.shelf.rows.now))
-    (omega (arith, c.told-lists2))
-    (omega (arith, capacity, c.told-lists3))
+    (omega arith)
+    (omega (arith, capacity))
     c.args.out.now c.split_and_write.new.out c.split_and_write.result c.split_and_write.ensures
     in
     record { answer = p.0; fault = p.1 }
