@@ -24,13 +24,13 @@ loop-number-preserved g c =
     let e : c.loop-number.number + 1 - 1 ≡ c.loop-number.number = omega arith in (
       omega (arith, c.pulses-number-end.ensures, c.loop-number-test.true),
       rw e
-      (write_more g.K.Total.kind (state_of g.S.Shelf.slots g.S.Shelf.outside c.args.sheet.now).slots c.loop-number.number c.args.named.at c.loop-number.text.at c.in_ok-text.text.at c.args.out.now c.loop-number.out c.write_line.new.out
-      (omega arith)
-      (omega arith)
-      c.loop-number.invariant.1.0
-      c.loop-number.invariant.1.1
-      c.in_ok-text.ensures.answer.0
-      c.in_ok-text.ensures.answer.1),
+          (write_more g.K.Total.kind (state_of g.S.Shelf.slots g.S.Shelf.outside c.args.sheet.now).slots c.loop-number.number c.args.named.at c.loop-number.text.at c.in_ok-text.text.at c.args.out.now c.loop-number.out c.write_line.new.out
+          (omega arith)
+          (omega arith)
+          c.loop-number.invariant.1.0
+          c.loop-number.invariant.1.1
+          c.in_ok-text.ensures.answer.0
+          c.in_ok-text.ensures.answer.1),
     )
 
 pub returns-in_ok-text-clause-answer : goal.returns-in_ok-text-clause-answer
