@@ -11,6 +11,9 @@ use shelves::Row;
 // The most totals of one call, all its records together.
 const MOST_TOTALS: usize = 16_000;
 
+// What the search works in: two entries more than days.
+const WORK_ENTRIES: usize = MOST_DAYS + 2;
+
 // The answer where no number of pulses can be given. Stays a number: the C interface has no Option.
 const NONE: usize = 1_000_000;
 
@@ -24,7 +27,7 @@ pub extern "C" fn bench_take(lot: &[i64], days: usize, rounds: usize, listed: &m
     }
     let mut totals = [Cents::new(0); MOST_TOTALS];
     fill(&mut totals, lot);
-    let mut work = [WorkEntry::new(); 1002];
+    let mut work = [WorkEntry::new(); WORK_ENTRIES];
     let mut rows = [blank(); MOST_DAYS];
     let work = &mut work[..days + 2];
     let rows = &mut rows[..days];

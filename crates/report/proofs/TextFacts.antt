@@ -62,6 +62,15 @@ rows_more K slots i = rw add-one refl
 pub rows_longer : (K : Kind) (slots : List (Option Entry)) (i : ℕ) → length (row_lines K (i + 1) slots) ≡ length (row_lines K i slots) + length (slot_line K slots (i + 1))
 rows_longer K slots i = ap length (rows_more K slots i) ∙ length-append (row_lines K i slots) (slot_line K slots (i + 1))
 
+-- the same for the line of a number, that of a slot counted from 1
+pub rows_to : (K : Kind) (slots : List (Option Entry)) (n : ℕ) → 1 ≤ n → row_lines K n slots ≡ row_lines K (n - 1) slots ++ slot_line K slots n
+rows_to K slots n p =
+    let e : n ≡ (n - 1) + 1 = omega arith in
+    ap (λ i. row_lines K i slots) e ∙ (rows_more K slots (n - 1) ∙ ap (λ i. row_lines K (n - 1) slots ++ slot_line K slots i) (sym e))
+
+pub rows_next : (K : Kind) (slots : List (Option Entry)) (n : ℕ) → 1 ≤ n → length (row_lines K n slots) ≡ length (row_lines K (n - 1) slots) + length (slot_line K slots n)
+rows_next K slots n p = ap length (rows_to K slots n p) ∙ length-append (row_lines K (n - 1) slots) (slot_line K slots n)
+
 pub rows_grow : (K : Kind) (slots : List (Option Entry)) (i j : ℕ) → length (row_lines K i slots) ≤ length (row_lines K (i + j) slots)
 rows_grow K slots i zero = let e : length (row_lines K i slots) ≡ length (row_lines K (i + 0) slots) = ap (λ n. length (row_lines K n slots)) (omega arith) in omega arith
 rows_grow K slots i (suc j) =
@@ -84,18 +93,18 @@ rows_rest K slots i (suc j) =
     let m : i + suc j ≡ (i + j) + 1 = omega arith in
     (rest ++ slot_line K slots ((i + j) + 1), ap (λ n. row_lines K n slots) m ∙ (rows_more K slots (i + j) ∙ (ap (λ z. z ++ slot_line K slots ((i + j) + 1)) e ∙ append_assoc (row_lines K i slots) rest (slot_line K slots ((i + j) + 1)))))
 
--- lines that stop at a slot, behind those that are written
-pub lines_stop : (K : Kind) (s : State) (slot start at : ℕ) (before now after : List ℕ) (stop : Stop) → slot < s.count → start ≤ length before →
-    now ≡ pasted start (row_lines K slot s.slots) before → at ≡ start + length (row_lines K slot s.slots) →
-    PartWritten K s at (slot_line K s.slots (slot + 1)) now after (Err stop) → Stopped at (slot_line K s.slots (slot + 1)) now after (Err stop) →
+-- lines that stop at a number, behind those that are written
+pub lines_stop : (K : Kind) (s : State) (n start at : ℕ) (before now after : List ℕ) (stop : Stop) → 1 ≤ n → n ≤ s.count → start ≤ length before →
+    now ≡ pasted start (row_lines K (n - 1) s.slots) before → at ≡ start + length (row_lines K (n - 1) s.slots) →
+    PartWritten K s at (slot_line K s.slots n) now after (Err stop) → Stopped at (slot_line K s.slots n) now after (Err stop) →
     PartWritten K s start (row_lines K s.count s.slots) before after (Err stop) × Stopped start (row_lines K s.count s.slots) before after (Err stop)
-lines_stop K s slot start at before now after (Refused r) h l e f w k = absurd w
-lines_stop K s slot start at before now after Unreachable h l e f u k =
-    let (rest, q) = rows_rest K s.slots (slot + 1) (s.count - (slot + 1)) in
-    let m : (slot + 1) + (s.count - (slot + 1)) ≡ s.count = omega arith in
-    let whole : row_lines K slot s.slots ++ (slot_line K s.slots (slot + 1) ++ rest) ≡ row_lines K s.count s.slots =
-    sym (append_assoc (row_lines K slot s.slots) (slot_line K s.slots (slot + 1)) rest) ∙ (ap (λ z. z ++ rest) (sym (rows_more K s.slots slot)) ∙ (sym q ∙ ap (λ n. row_lines K n s.slots) m)) in
-    (u, subst (λ bytes. CutShort start bytes before after) whole (cut_more start at (row_lines K slot s.slots) (slot_line K s.slots (slot + 1)) rest before now after l e f k))
+lines_stop K s n start at before now after (Refused r) p h l e f w k = absurd w
+lines_stop K s n start at before now after Unreachable p h l e f u k =
+    let (rest, q) = rows_rest K s.slots n (s.count - n) in
+    let m : n + (s.count - n) ≡ s.count = omega arith in
+    let whole : row_lines K (n - 1) s.slots ++ (slot_line K s.slots n ++ rest) ≡ row_lines K s.count s.slots =
+    sym (append_assoc (row_lines K (n - 1) s.slots) (slot_line K s.slots n) rest) ∙ (ap (λ z. z ++ rest) (sym (rows_to K s.slots n p)) ∙ (sym q ∙ ap (λ i. row_lines K i s.slots) m)) in
+    (u, subst (λ bytes. CutShort start bytes before after) whole (cut_more start at (row_lines K (n - 1) s.slots) (slot_line K s.slots n) rest before now after l e f k))
 
 -- the same behind the names line
 pub whole_stop : (K : Kind) (s : State) (start at : ℕ) (before now after : List ℕ) (stop : Stop) → start ≡ 0 →
@@ -109,26 +118,26 @@ whole_stop K s start at before now after Unreachable z e f u k = (
       (cut_more 0 at (line letters (pulse_names K)) (row_lines K s.count s.slots) [] before now after (omega arith) (e ∙ ap (λ n. pasted n (line letters (pulse_names K)) before) z) (omega arith) k),
 )
 
--- a slot whose line has no room, or is not there
-pub rows_stop : (K : Kind) (s : State) (slot room left : ℕ) (stop : Stop) → slot < s.count → room ≡ length (row_lines K slot s.slots) + left →
-    RoomLeft K s (length (slot_line K s.slots (slot + 1))) left (Err stop) → RoomLeft K s (length (row_lines K s.count s.slots)) room (Err stop)
-rows_stop K s slot room left (Refused r) h e (n, l) =
-    let m = rows_longer K s.slots slot in
-    let w = rows_within K s.slots (slot + 1) s.count (omega arith) in
-    (n, omega arith)
-rows_stop K s slot room left Unreachable h e u = u
+-- a number whose line has no room, or is not there
+pub rows_stop : (K : Kind) (s : State) (n room left : ℕ) (stop : Stop) → 1 ≤ n → n ≤ s.count → room ≡ length (row_lines K (n - 1) s.slots) + left →
+    RoomLeft K s (length (slot_line K s.slots n)) left (Err stop) → RoomLeft K s (length (row_lines K s.count s.slots)) room (Err stop)
+rows_stop K s n room left (Refused r) p h e (t, l) =
+    let m = rows_next K s.slots n p in
+    let w = rows_within K s.slots n s.count h in
+    (t, omega arith)
+rows_stop K s n room left Unreachable p h e u = u
 
 -- one line more is written
-pub write_more : (K : Kind) (slots : List (Option Entry)) (i start at end : ℕ) (before now after : List ℕ) → start ≤ length before →
-    now ≡ pasted start (row_lines K i slots) before → at ≡ start + length (row_lines K i slots) →
-    after ≡ pasted at (slot_line K slots (i + 1)) now → end ≡ at + length (slot_line K slots (i + 1)) →
-    (after ≡ pasted start (row_lines K (i + 1) slots) before) × (end ≡ start + length (row_lines K (i + 1) slots))
-write_more K slots i start at end before now after l a b c d = (
-  c ∙ (ap (λ n. pasted n (slot_line K slots (i + 1)) now) b
-      ∙ (ap (pasted (start + length (row_lines K i slots)) (slot_line K slots (i + 1))) a
-      ∙ (pasted_append start (row_lines K i slots) (slot_line K slots (i + 1)) before l
-      ∙ ap (λ bs. pasted start bs before) (sym (rows_more K slots i))))),
-  omega (arith, rows_longer K slots i),
+pub write_more : (K : Kind) (slots : List (Option Entry)) (n start at end : ℕ) (before now after : List ℕ) → 1 ≤ n → start ≤ length before →
+    now ≡ pasted start (row_lines K (n - 1) slots) before → at ≡ start + length (row_lines K (n - 1) slots) →
+    after ≡ pasted at (slot_line K slots n) now → end ≡ at + length (slot_line K slots n) →
+    (after ≡ pasted start (row_lines K n slots) before) × (end ≡ start + length (row_lines K n slots))
+write_more K slots n start at end before now after p l a b c d = (
+  c ∙ (ap (λ i. pasted i (slot_line K slots n) now) b
+      ∙ (ap (pasted (start + length (row_lines K (n - 1) slots)) (slot_line K slots n)) a
+      ∙ (pasted_append start (row_lines K (n - 1) slots) (slot_line K slots n) before l
+      ∙ ap (λ bs. pasted start bs before) (sym (rows_to K slots n p))))),
+  omega (arith, rows_next K slots n p),
 )
 
 -- the lines of the rows are those of the pulses

@@ -15,7 +15,15 @@ use sheets::{Sheet, Stop, WorkEntry};
 use shelves::{Row, RowShelf, Shelf};
 use writing::write_refusal;
 
-const WORK_ENTRIES: usize = 1002;
+const WORK_ENTRIES: usize = MOST_DAYS + 2;
+
+// What a report works in, with room for every record.
+#[derive(Drop)]
+struct Lists<K> {
+    totals: [K; MOST_DAYS],
+    work: [WorkEntry<K>; WORK_ENTRIES],
+    rows: [Row<K>; MOST_DAYS],
+}
 
 // Room for the report on any text.
 pub const MOST_REPORT_BYTES: usize = 65_536;
@@ -80,19 +88,23 @@ fn line_end(text: &[u8]) -> usize
 fn report_mobile(text: &[u8], out: &mut [u8]) -> Result<usize, Refusal>
     ensures { Reported (report_as mobile text.now) out.old out.new result }
 {
-    let mut totals = [Mobile::zero(); MOST_DAYS];
-    let mut work = [WorkEntry::new(); WORK_ENTRIES];
-    let mut rows = [blank(); MOST_DAYS];
-    report_with(text, &mut totals, &mut work, &mut rows, out)
+    let mut lists = Lists {
+        totals: [Mobile::zero(); MOST_DAYS],
+        work: [WorkEntry::new(); WORK_ENTRIES],
+        rows: [blank(); MOST_DAYS],
+    };
+    report_with(text, &mut lists, out)
 }
 
 fn report_paper(text: &[u8], out: &mut [u8]) -> Result<usize, Refusal>
     ensures { Reported (report_as paper text.now) out.old out.new result }
 {
-    let mut totals = [Paper::zero(); MOST_DAYS];
-    let mut work = [WorkEntry::new(); WORK_ENTRIES];
-    let mut rows = [blank(); MOST_DAYS];
-    report_with(text, &mut totals, &mut work, &mut rows, out)
+    let mut lists = Lists {
+        totals: [Paper::zero(); MOST_DAYS],
+        work: [WorkEntry::new(); WORK_ENTRIES],
+        rows: [blank(); MOST_DAYS],
+    };
+    report_with(text, &mut lists, out)
 }
 
 // A row to fill a list with.
@@ -105,34 +117,30 @@ fn blank<K: Total>() -> Row<K> {
     }
 }
 
-// The report on a text of totals of one kind, in lists that have room for every record.
+// The report on a text of totals of one kind.
 fn report_with<K: Total>(
     text: &[u8],
-    totals: &mut [K; MOST_DAYS],
-    work: &mut [WorkEntry<K>; WORK_ENTRIES],
-    rows: &mut [Row<K>; MOST_DAYS],
+    lists: &mut Lists<K>,
     out: &mut [u8],
 ) -> Result<usize, Refusal>
     ensures { Reported (report_as K.kind text.now) out.old out.new result }
 {
-    let pulses = pulses_of(text, totals, work, rows, out);
+    let pulses = pulses_of(text, lists, out);
     tell(pulses, out)
 }
 
 // Reads a text as totals of one kind, splits the record and writes its pulses.
 fn pulses_of<K: Total>(
     text: &[u8],
-    totals: &mut [K; MOST_DAYS],
-    work: &mut [WorkEntry<K>; WORK_ENTRIES],
-    rows: &mut [Row<K>; MOST_DAYS],
+    lists: &mut Lists<K>,
     out: &mut [u8],
 ) -> Result<usize, FileFault>
     ensures answer { PulsesWritten K.kind text.now out.old out.new result }
     ensures fault { OfReport result }
 {
-    let days = read_trace(text, totals)?;
-    let mut sheet: Sheet<K, RowShelf<K>> = Sheet::new(RowShelf::over(rows));
-    split_and_write(&mut sheet, &totals[..days], work, out)
+    let days = read_trace(text, &mut lists.totals)?;
+    let mut sheet: Sheet<K, RowShelf<K>> = Sheet::new(RowShelf::over(&mut lists.rows));
+    split_and_write(&mut sheet, &lists.totals[..days], &mut lists.work, out)
 }
 
 // Splits a record on a new sheet and writes the pulses.

@@ -29,6 +29,7 @@ pub fn write_pulses<K: Total, S: Shelf<K>>(
 }
 
 // The same. The room is tested first, so that the lines that follow cannot fail.
+// Apart from the public call, which has no proof file: an edit of that call is then refused by a fact.
 fn write_text<K: Total, S: Shelf<K>>(sheet: &Sheet<K, S>, out: &mut [u8]) -> Result<usize, Stop>
     ensures answer { TextWritten K.kind (state_of S.slots S.outside sheet.now) out.old out.new result }
     ensures stop { Stopped 0 (sheet_text K.kind (state_of S.slots S.outside sheet.now)) out.old out.new result }
@@ -60,14 +61,13 @@ fn room_behind_text<K: Total, S: Shelf<K>>(sheet: &Sheet<K, S>, room: usize) -> 
 }
 
 // The same behind the lines of its pulses.
-#[tactic(auto, using(crate::proofs::TextFacts::rows_none, crate::proofs::TextFacts::rows_longer))]
+#[tactic(auto, using(crate::proofs::TextFacts::rows_none))]
 fn room_behind_lines<K: Total, S: Shelf<K>>(sheet: &Sheet<K, S>, room: usize) -> Result<usize, Stop>
     ensures { RoomLeft K.kind (state_of S.slots S.outside sheet.now) (length (row_lines K.kind (state_of S.slots S.outside sheet.now).count (state_of S.slots S.outside sheet.now).slots)) room result }
 {
     let mut left = room;
-    // Not over `1..=`: such a loop ends at two places, and its proof is twice as long.
-    for done in 0..sheet.pulses() {
-        left = room_behind_line(sheet, done + 1, left)?;
+    for number in 1..=sheet.pulses() {
+        left = room_behind_line(sheet, number, left)?;
     }
     Ok(left)
 }
@@ -96,9 +96,8 @@ fn write_lines<K: Total, S: Shelf<K>>(
     ensures stop { Stopped named.at (row_lines K.kind (state_of S.slots S.outside sheet.now).count (state_of S.slots S.outside sheet.now).slots) out.old out.new (told (λ t. t.at) (λ e. e) result) }
 {
     let mut text = named;
-    // Not over `1..=`, for the same reason as above.
-    for done in 0..sheet.pulses() {
-        text = write_line(sheet, done + 1, text, out)?;
+    for number in 1..=sheet.pulses() {
+        text = write_line(sheet, number, text, out)?;
     }
     Ok(text)
 }
@@ -127,8 +126,8 @@ fn line_of<K: Total, S: Shelf<K>>(sheet: &Sheet<K, S>, number: usize) -> Result<
     let pulse = sheet.pulse(number)?;
     Ok(PulseLine {
         number,
-        width: pulse.stretch.width as usize,
-        first: pulse.stretch.first as usize,
+        width: usize::from(pulse.stretch.width),
+        first: usize::from(pulse.stretch.first),
         amount: pulse.amount,
         state: pulse.mark,
     })

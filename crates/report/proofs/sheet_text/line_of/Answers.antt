@@ -4,4 +4,5 @@ use Rattle.report.proofs.sheet_text.line_of.Goals as goal
 
 pub returns : goal.returns
 returns g c =
-    listed_line g.K.Total.kind g.K.Total.columns (state_of g.S.Shelf.slots g.S.Shelf.outside c.args.sheet.now) c.args.number c.in_ok-pulse.pulse c.in_ok-pulse.ensures
+    rw (c.from.ensures, c.from-2.ensures)
+    (listed_line g.K.Total.kind g.K.Total.columns (state_of g.S.Shelf.slots g.S.Shelf.outside c.args.sheet.now) c.args.number c.in_ok-pulse.pulse c.in_ok-pulse.ensures)

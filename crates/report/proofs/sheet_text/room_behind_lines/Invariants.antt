@@ -1,7 +1,9 @@
-use Rattle.std.proofs.Common.{◌≡◌, ◌+◌, length}
+use Rattle.std.proofs.Common.{◌≡◌, ◌+◌, ◌-◌, ◌≤◌, length}
 use Rattle.sheets.specs.Takes.{state_of}
 use Rattle.report.specs.PulseTexts.{row_lines}
 use Rattle.report.proofs.sheet_text.room_behind_lines.Given as goal
 
-abbrev pub invariant-loop-done : goal.invariant-loop-done
-invariant-loop-done g l = l.room ≡ length (row_lines g.K.Total.kind l.done (state_of g.S.Shelf.slots g.S.Shelf.outside l.sheet).slots) + l.left
+abbrev pub invariant-loop-number : goal.invariant-loop-number
+invariant-loop-number g l =
+    (l.number ≤ (state_of g.S.Shelf.slots g.S.Shelf.outside l.sheet).count + 1) ×
+    (l.room ≡ length (row_lines g.K.Total.kind (l.number - 1) (state_of g.S.Shelf.slots g.S.Shelf.outside l.sheet).slots) + l.left)
