@@ -30,7 +30,10 @@ fn sums_end_with_64_bits(rt: HostRuntime) {
     assert_eq!(rt; shown(cents(i64::MAX).sum(cents(i64::MIN))), Some(-1));
     assert_eq!(rt; shown(cents(i64::MIN).difference(cents(1))), None);
     assert_eq!(rt; shown(cents(0).difference(cents(i64::MIN))), None);
-    assert_eq!(rt; shown(cents(-1).difference(cents(i64::MIN))), Some(i64::MAX));
+    assert_eq!(rt;
+        shown(cents(-1).difference(cents(i64::MIN))),
+        Some(i64::MAX)
+    );
     assert_eq!(rt; shown(cents(7).difference(cents(9))), Some(-2));
 }
 
