@@ -1,5 +1,5 @@
 // The calls of a sheet: new, take, remove, restore, remove one and restore one.
-ghost use Rattle.std.specs.Prelude.{◌≡◌, [], map, length};
+ghost use Rattle.std.specs.Prelude.{◌≡◌, suc, ◌<◌, ◌≤◌, [], map, length};
 ghost use Rattle.sheets.specs.Takes.{Take, opened, state_of};
 ghost use Rattle.sheets.specs.Calls.{taking, marking, marking_one, removing, restoring, removing_one, restoring_one};
 ghost use Rattle.sheets.specs.Marks.{Marking};
@@ -119,5 +119,29 @@ fn mark_one<K: Total, S: Shelf<K>>(
     if number == 0 || number > sheet.pulses {
         return Err(Stop::Refused(Refusal::NoSuchPulse));
     }
-    mark_slot(&mut sheet.shelf, number - 1, mark)
+    mark_number(sheet, mark, number)
+}
+
+// Sets a mark on the pulse of a number that is one.
+fn mark_number<K: Total, S: Shelf<K>>(
+    sheet: &mut Sheet<K, S>,
+    mark: Mark,
+    number: usize,
+) -> Result<usize, Stop>
+    requires { (1 ≤ number) × (number ≤ sheet.old.pulses) }
+    ensures { Marking K.kind (marking_one mark number) (state_of S.slots S.outside sheet.old) (state_of S.slots S.outside sheet.new) sheet.old sheet.new result }
+{
+    mark_held(sheet, number - 1, mark)
+}
+
+// Sets a mark on the pulse in a slot.
+fn mark_held<K: Total, S: Shelf<K>>(
+    sheet: &mut Sheet<K, S>,
+    slot: usize,
+    mark: Mark,
+) -> Result<usize, Stop>
+    requires { slot < sheet.old.pulses }
+    ensures { Marking K.kind (marking_one mark (suc slot)) (state_of S.slots S.outside sheet.old) (state_of S.slots S.outside sheet.new) sheet.old sheet.new result }
+{
+    mark_slot(&mut sheet.shelf, slot, mark)
 }
