@@ -100,8 +100,3 @@ module _ (K : Kind) (m : Mark) (k : ℕ) where
       rest = λ i l. rw s refl;
     };
   }
-
-pub one_marked_by_number : (K : Kind) (m : Mark) (i n : ℕ) (before after : List (Option Entry)) (r : Result ℕ Stop) → 1 ≤ i → i ≤ n →
-    SlotMarked K (marking_one m (suc (i - 1))) (i - 1) before after r → SlotsMarked K (marking_one m i) n before after r
-one_marked_by_number K m i n before after r f h s =
-    subst (λ j. SlotsMarked K (marking_one m j) n before after r) (omega arith) (one_marked K m (i - 1) n before after r (omega arith) s)

@@ -1,5 +1,5 @@
 // The calls of a sheet: new, take, remove, restore, remove one and restore one.
-ghost use Rattle.std.specs.Prelude.{◌≡◌, [], map, length};
+ghost use Rattle.std.specs.Prelude.{◌≡◌, suc, ◌<◌, ◌≤◌, [], map, length};
 ghost use Rattle.sheets.specs.Takes.{Take, opened, state_of};
 ghost use Rattle.sheets.specs.Calls.{taking, marking, marking_one, removing, restoring, removing_one, restoring_one};
 ghost use Rattle.sheets.specs.Marks.{Marking};
@@ -82,6 +82,16 @@ fn begun<K: Total, S: Shelf<K>>(shelf: S) -> Sheet<K, S>
     ensures history { Shows K.kind [] (state_of S.slots S.outside result) }
     ensures promise { Promise K.kind [] (state_of S.slots S.outside result) }
 {
+    blank(shelf)
+}
+
+// A sheet of the empty record.
+// Stays apart from `begun`, as `mark_pulses`, `mark_number` and `hold_record` from their callers: it has
+// no proof file, so that an edit of it is refused by its contract.
+fn blank<K: Total, S: Shelf<K>>(shelf: S) -> Sheet<K, S>
+    ensures shelf { result.shelf ≡ shelf }
+    ensures answer { state_of S.slots S.outside result ≡ opened (S.slots shelf) (S.outside shelf) }
+{
     Sheet {
         shelf,
         days: 0,
@@ -103,6 +113,18 @@ fn mark_range<K: Total, S: Shelf<K>>(
     if widths.lowest == 0 || widths.lowest > widths.highest || widths.highest > MOST_DAYS {
         return Err(Stop::Refused(Refusal::WidthsOutOfRange));
     }
+    mark_pulses(sheet, mark, widths)
+}
+
+// Sets a mark on every pulse that has one of the widths, which are in range.
+fn mark_pulses<K: Total, S: Shelf<K>>(
+    sheet: &mut Sheet<K, S>,
+    mark: Mark,
+    widths: Widths,
+) -> Result<usize, Stop>
+    requires { (1 ≤ widths.lowest) × (widths.lowest ≤ widths.highest) × (widths.highest ≤ 1000) }
+    ensures { Marking K.kind (marking mark widths.lowest widths.highest) (state_of S.slots S.outside sheet.old) (state_of S.slots S.outside sheet.new) sheet.old sheet.new result }
+{
     mark_widths(&mut sheet.shelf, sheet.pulses, mark, widths)
 }
 
@@ -119,5 +141,29 @@ fn mark_one<K: Total, S: Shelf<K>>(
     if number == 0 || number > sheet.pulses {
         return Err(Stop::Refused(Refusal::NoSuchPulse));
     }
-    mark_slot(&mut sheet.shelf, number - 1, mark)
+    mark_number(sheet, mark, number)
+}
+
+// Sets a mark on the pulse of a number that is one.
+fn mark_number<K: Total, S: Shelf<K>>(
+    sheet: &mut Sheet<K, S>,
+    mark: Mark,
+    number: usize,
+) -> Result<usize, Stop>
+    requires { (1 ≤ number) × (number ≤ sheet.old.pulses) }
+    ensures { Marking K.kind (marking_one mark number) (state_of S.slots S.outside sheet.old) (state_of S.slots S.outside sheet.new) sheet.old sheet.new result }
+{
+    mark_held(sheet, number - 1, mark)
+}
+
+// Sets a mark on the pulse in a slot.
+fn mark_held<K: Total, S: Shelf<K>>(
+    sheet: &mut Sheet<K, S>,
+    slot: usize,
+    mark: Mark,
+) -> Result<usize, Stop>
+    requires { slot < sheet.old.pulses }
+    ensures { Marking K.kind (marking_one mark (suc slot)) (state_of S.slots S.outside sheet.old) (state_of S.slots S.outside sheet.new) sheet.old sheet.new result }
+{
+    mark_slot(&mut sheet.shelf, slot, mark)
 }

@@ -1,5 +1,6 @@
 // The questions of a sheet. They change nothing.
 ghost use Rattle.std.specs.Prelude.{◌≡◌, ◌≤◌, length};
+ghost use Rattle.kinds.specs.Columns.{nought};
 ghost use Rattle.kinds.specs.Kinds.{Gives};
 ghost use Rattle.transform.specs.Pulses.{size};
 ghost use Rattle.sheets.specs.Takes.{state_of};
@@ -124,6 +125,13 @@ fn with_step<K: Total>(sum: K, from: K, to: K) -> Option<K>
     sum.sum(size_of(step)?)
 }
 
+// The sum with the size of the step from the last total to the zero after the last day.
+fn with_last_step<K: Total>(sum: K, last: K) -> Option<K>
+    ensures { Steps K.kind K.columns (K.columns sum) (K.columns last) (nought K.kind.arity) result }
+{
+    with_step(sum, last, K::zero())
+}
+
 // The sum of the sizes of the steps, from the zero before day 1 to the zero after the last day.
 fn whole_swing<K: Total, S: Shelf<K>>(sheet: &Sheet<K, S>) -> Result<K, Stop>
     ensures { ComesOut K.kind K.columns (state_of S.slots S.outside sheet.now) (standing_swing K.kind (state_of S.slots S.outside sheet.now)) result }
@@ -136,5 +144,5 @@ fn whole_swing<K: Total, S: Shelf<K>>(sheet: &Sheet<K, S>) -> Result<K, Stop>
         sum = with_step(sum, before, total).ok_or(Stop::Unreachable)?;
         before = total;
     }
-    with_step(sum, before, zero).ok_or(Stop::Unreachable)
+    with_last_step(sum, before).ok_or(Stop::Unreachable)
 }

@@ -49,6 +49,13 @@ impl<K: Total, S: Shelf<K>> Sheet<K, S> {
         ensures history { Continues K.kind (taking (map K.columns totals.now) (length work.old)) (state_of S.slots S.outside self.old) (state_of S.slots S.outside self.new) result }
         ensures promise { Keeps K.kind (taking (map K.columns totals.now) (length work.old)) (state_of S.slots S.outside self.old) (state_of S.slots S.outside self.new) }
     {
+        self.hold_record(totals, work)
+    }
+
+    // Splits a record and holds its pulses in place of what the sheet had.
+    fn hold_record(&mut self, totals: &[K], work: &mut [WorkEntry<K>]) -> Result<usize, Stop>
+        ensures { Take K.kind (map K.columns totals.now) (length work.old) (state_of S.slots S.outside self.old) (state_of S.slots S.outside self.new) self.old self.new work.old work.new result }
+    {
         let pulses = split_record(totals, work, &mut self.shelf)?;
         self.days = totals.len();
         self.pulses = pulses;

@@ -13,6 +13,15 @@ fn number(total: Result<Cents, Stop>) -> Option<i64> {
     total.ok()?.column(1)
 }
 
+// The number of marks changed, or 100 more than the number of the refusal.
+fn code(answer: Result<usize, Stop>) -> usize {
+    match answer {
+        Ok(changed) => changed,
+        Err(Stop::Refused(refusal)) => 100 + usize::from(refusal.number()),
+        Err(Stop::Unreachable) => 200,
+    }
+}
+
 #[test]
 fn width_three_out(rt: HostRuntime) {
     let blank = Row {
@@ -49,14 +58,12 @@ fn width_three_out(rt: HostRuntime) {
     assert_eq!(rt; number(sheet.standing(3)), Some(10));
     assert_eq!(rt; number(sheet.standing(4)), Some(0));
     assert_eq!(rt; number(sheet.swing()), Some(30));
-    assert_eq!(rt;
-        sheet.remove(0, 4),
-        Err(Stop::Refused(Refusal::WidthsOutOfRange))
-    );
-    assert_eq!(rt; sheet.restore_one(3), Ok(1));
+    let no_width = sheet.remove(0, 4);
+    assert_eq!(rt; no_width, Err(Stop::Refused(Refusal::WidthsOutOfRange)));
+    assert_eq!(rt; code(no_width), 105);
+    assert_eq!(rt; code(sheet.restore_one(3)), 1);
     assert_eq!(rt; number(sheet.swing()), Some(40));
-    assert_eq!(rt;
-        sheet.restore_one(4),
-        Err(Stop::Refused(Refusal::NoSuchPulse))
-    );
+    let no_pulse = sheet.restore_one(4);
+    assert_eq!(rt; no_pulse, Err(Stop::Refused(Refusal::NoSuchPulse)));
+    assert_eq!(rt; code(no_pulse), 106);
 }

@@ -48,3 +48,8 @@ pub record Laid {X : Type 0} (m : ℕ) (x : ℕ → X) (v : View X) (first marks
   pub within : (i : ℕ) → i < marks → v.mark i ≤ day
   pub begins : (i : ℕ) → i < marks → 0 < v.mark i → x (v.mark i - 1) ≢ x (v.mark i)
   pub all : (s : ℕ) → 0 < s → s ≤ day → (x (s - 1) ≢ x s) → (i : ℕ) × (i < marks) × (v.mark i ≡ s)
+
+-- A record's trace that is laid out up to a day is laid out one day further, if the day after holds this
+-- total: the work list before and after, then the first day, the marks and the total of the open run.
+pub record Extends {X : Type 0} (v w : View X) (day : ℕ) (added : X) (first marks : ℕ) (total : X) (first' marks' : ℕ) (total' : X) : Type 0 where
+  pub laid : (m : ℕ) (x : ℕ → X) → Laid m x v first marks day → total ≡ x first → added ≡ x (suc day) → suc day ≤ m → Laid m x w first' marks' (suc day) × (total' ≡ x first')

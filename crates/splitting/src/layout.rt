@@ -1,9 +1,9 @@
 // A record laid out in the work list, run by run.
-ghost use Rattle.std.specs.Prelude.{◌≡◌, ℕ, suc, ◌+◌, ◌<◌, ◌≤◌, map, length};
-ghost use Rattle.kinds.specs.Kinds.{Of};
+ghost use Rattle.std.specs.Prelude.{◌≡◌, suc, ◌+◌, ◌<◌, ◌≤◌, map, length};
+ghost use Rattle.kinds.specs.Columns.{nought};
 ghost use Rattle.transform.specs.Windows.{trace};
 ghost use Rattle.splitting.specs.Work.{view};
-ghost use Rattle.splitting.specs.Runs.{Knows, Laid, Marks};
+ghost use Rattle.splitting.specs.Runs.{Extends, Knows, Marks};
 
 use crate::work::{WorkEntry, set_mark, set_run};
 use kinds::Total;
@@ -24,7 +24,7 @@ impl<K: Total> Layout<K> {
         requires first_le_day { self.first ≤ day }
         requires marks_le_day { self.marks ≤ day }
         requires day_in_bounds { day < length work.old }
-        ensures laid { (m : ℕ) (x : ℕ → Of K.kind) → Laid m x (view K.kind K.columns work.old) self.first self.marks day → K.columns self.total ≡ x self.first → K.columns total ≡ x (suc day) → suc day ≤ m → Laid m x (view K.kind K.columns work.new) result.first result.marks (suc day) × (K.columns result.total ≡ x result.first) }
+        ensures laid { Extends (view K.kind K.columns work.old) (view K.kind K.columns work.new) day (K.columns total) self.first self.marks (K.columns self.total) result.first result.marks (K.columns result.total) }
         ensures first { result.first ≤ suc day }
         ensures marks { result.marks ≤ suc day }
     {
@@ -39,6 +39,18 @@ impl<K: Total> Layout<K> {
             total,
         }
     }
+
+    // The end of the record: the day after it, with the total of the days outside.
+    fn ended(self, work: &mut [WorkEntry<K>], days: usize) -> Layout<K>
+        requires first_le_days { self.first ≤ days }
+        requires marks_le_days { self.marks ≤ days }
+        requires days_in_bounds { days < length work.old }
+        ensures laid { Extends (view K.kind K.columns work.old) (view K.kind K.columns work.new) days (nought K.kind.arity) self.first self.marks (K.columns self.total) result.first result.marks (K.columns result.total) }
+        ensures first { result.first ≤ suc days }
+        ensures marks { result.marks ≤ suc days }
+    {
+        self.extended(work, days, K::zero())
+    }
 }
 
 // Lays the record out in runs and marks each of them. Answers the number of marks.
@@ -48,18 +60,16 @@ pub(crate) fn build<K: Total>(totals: &[K], work: &mut [WorkEntry<K>]) -> usize
     ensures marks { Marks K.kind (trace K.kind (map K.columns totals.now)) (view K.kind K.columns work.new).mark 0 result 0 (suc (length totals.now)) }
     ensures few { result ≤ suc (length totals.now) }
 {
-    // the total of the days before the record and after it
-    let outside = K::zero();
     let mut at = Layout {
         first: 0,
         marks: 0,
-        total: outside,
+        total: K::zero(),
     };
     for (day, total) in totals.iter().enumerate() {
         at = at.extended(work, day, *total);
     }
     let days = totals.len();
-    at = at.extended(work, days, outside);
+    at = at.ended(work, days);
     set_run(work, at.first, days + 1, at.total);
     at.marks
 }

@@ -5,6 +5,7 @@ ghost use Rattle.kinds.specs.Columns.{within};
 ghost use Rattle.shelves.specs.Slots.{listed, shown};
 ghost use Rattle.transform.specs.Windows.{Record, trace};
 ghost use Rattle.transform.specs.Pulses.{change};
+ghost use Rattle.splitting.specs.declared.levelling.Aim.TheVariants.{Bumps, Pits};
 ghost use Rattle.splitting.specs.Records.{marked_in, row_of};
 ghost use Rattle.splitting.specs.Work.{view};
 ghost use Rattle.splitting.specs.Passes.{aimed, FateOf, Joins, Relaid, bump_pulse, Marked, Midway, Visiting, Added, Ready, SlotsLeft, Swept};
@@ -93,6 +94,30 @@ pub(crate) struct Pass {
 }
 
 impl Pass {
+    // The pass that levels the bumps of a width.
+    pub(crate) fn bumps(days: usize, width: usize) -> Pass
+        requires { days ≤ 1000 }
+        ensures { (result.days ≡ days) × (result.width ≡ width) × (result.aim ≡ Bumps) }
+    {
+        Pass {
+            days,
+            width,
+            aim: Aim::Bumps,
+        }
+    }
+
+    // The pass that levels the pits of a width.
+    pub(crate) fn pits(days: usize, width: usize) -> Pass
+        requires { days ≤ 1000 }
+        ensures { (result.days ≡ days) × (result.width ≡ width) × (result.aim ≡ Pits) }
+    {
+        Pass {
+            days,
+            width,
+            aim: Aim::Pits,
+        }
+    }
+
     // Levels the runs of the pass's width that it aims at, from the left, and puts their rows. Marks
     // of runs that are neither bump nor pit are dropped.
     pub(crate) fn level_width<K: Total, S: Shelf<K>>(

@@ -4,7 +4,7 @@ ghost use Rattle.transform.specs.Pulses.{pulses};
 ghost use Rattle.splitting.specs.Records.{Accepted, laid};
 
 use crate::layout::build;
-use crate::levelling::{Aim, Counts, Pass};
+use crate::levelling::{Counts, Pass};
 use crate::work::WorkEntry;
 use kinds::Total;
 use shelves::Shelf;
@@ -30,16 +30,8 @@ pub(crate) fn split_widths<K: Total, S: Shelf<K>>(
         if at.marks == 0 {
             return at.rows;
         }
-        let bumps = Pass {
-            days,
-            width,
-            aim: Aim::Bumps,
-        };
-        let pits = Pass {
-            days,
-            width,
-            aim: Aim::Pits,
-        };
+        let bumps = Pass::bumps(days, width);
+        let pits = Pass::pits(days, width);
         let lowered = bumps.level_width(work, shelf, at);
         at = pits.level_width(work, shelf, lowered);
     }

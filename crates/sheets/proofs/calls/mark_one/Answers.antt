@@ -1,7 +1,6 @@
-use Rattle.std.proofs.Common.{Err, rules, arith}
+use Rattle.std.proofs.Common.{Err, rules}
 use Rattle.refusals.specs.declared.refusal.Refusal.TheVariants.{NoSuchPulse}
 use Rattle.sheets.specs.declared.sheet.Stop.TheVariants.{Refused}
-use Rattle.sheets.proofs.Slots.{one_marked_by_number}
 use Rattle.sheets.proofs.History.{one_shows}
 use Rattle.sheets.proofs.Promised.{keeps}
 use Rattle.sheets.proofs.calls.mark_one.Goals as goal
@@ -12,15 +11,8 @@ returns-then-number-eq0-clause-history g c = one_shows g.K.Total.kind g.met.K.To
 pub returns-then-number-eq0-clause-promise : goal.returns-then-number-eq0-clause-promise
 returns-then-number-eq0-clause-promise g c = keeps g.K.Total.kind g.met.K.Total.lawful _ _ _ (Err (Refused NoSuchPulse)) (returns-then-number-eq0-clause-history g c)
 
-pub returns-clause-answer : goal.returns-clause-answer
-returns-clause-answer g c =
-    let m = one_marked_by_number g.K.Total.kind c.args.mark c.args.number c.args.sheet.now.pulses _ _ c.mark_slot.result (omega arith) (omega arith) c.mark_slot.ensures.slots in
-    search rules
-
 pub returns-clause-history : goal.returns-clause-history
-returns-clause-history g c =
-    let m = one_marked_by_number g.K.Total.kind c.args.mark c.args.number c.args.sheet.now.pulses _ _ c.mark_slot.result (omega arith) (omega arith) c.mark_slot.ensures.slots in
-    one_shows g.K.Total.kind g.met.K.Total.lawful c.args.mark c.args.number _ _ c.mark_slot.result (search rules)
+returns-clause-history g c = one_shows g.K.Total.kind g.met.K.Total.lawful c.args.mark c.args.number _ _ c.mark_number.result (search rules)
 
 pub returns-clause-promise : goal.returns-clause-promise
-returns-clause-promise g c = keeps g.K.Total.kind g.met.K.Total.lawful _ _ _ c.mark_slot.result (returns-clause-history g c)
+returns-clause-promise g c = keeps g.K.Total.kind g.met.K.Total.lawful _ _ _ c.mark_number.result (returns-clause-history g c)

@@ -13,7 +13,7 @@ pub returns-then-widths-eq0-clause-promise : goal.returns-then-widths-eq0-clause
 returns-then-widths-eq0-clause-promise g c = keeps g.K.Total.kind g.met.K.Total.lawful _ _ _ (Err (Refused WidthsOutOfRange)) (returns-then-widths-eq0-clause-history g c)
 
 pub returns-clause-history : goal.returns-clause-history
-returns-clause-history g c = range_shows g.K.Total.kind g.met.K.Total.lawful c.args.mark c.args.widths.lowest c.args.widths.highest _ _ c.mark_widths.result (search rules)
+returns-clause-history g c = range_shows g.K.Total.kind g.met.K.Total.lawful c.args.mark c.args.widths.lowest c.args.widths.highest _ _ c.mark_pulses.result (search rules)
 
 pub returns-clause-promise : goal.returns-clause-promise
-returns-clause-promise g c = keeps g.K.Total.kind g.met.K.Total.lawful _ _ _ c.mark_widths.result (returns-clause-history g c)
+returns-clause-promise g c = keeps g.K.Total.kind g.met.K.Total.lawful _ _ _ c.mark_pulses.result (returns-clause-history g c)

@@ -44,4 +44,4 @@ returns g c =
           (subst (Steps g.K.Total.kind g.K.Total.columns _ _ _) w.in_ok-sum.ensures.ok_part w.with_step.ensures))
     ] in
     rw c.ok_or-2.ensures.value
-    (swing_comes g.K.Total.kind g.met.K.Total.lawful g.K.Total.columns s _ _ _ c.with_step-2.result m c.zero-zero.ensures c.with_step-2.ensures)
+    (swing_comes g.K.Total.kind g.met.K.Total.lawful g.K.Total.columns s _ _ _ c.with_last_step.result m refl c.with_last_step.ensures)

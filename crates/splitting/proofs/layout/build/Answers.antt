@@ -9,7 +9,7 @@ use Rattle.splitting.proofs.layout.build.Goals as goal
 pub loop-day-init : goal.loop-day-init
 loop-day-init g c =
     let xs = map g.K.Total.columns c.args.totals.now in
-    (laid_none _ _ _, c.zero-outside.ensures ∙ sym (trace_outside g.K.Total.kind xs).0)
+    (laid_none _ _ _, c.zero.ensures ∙ sym (trace_outside g.K.Total.kind xs).0)
 
 pub loop-day-preserved : goal.loop-day-preserved
 loop-day-preserved g c =
@@ -17,7 +17,7 @@ loop-day-preserved g c =
     let x : Trace g.K.Total.kind = trace g.K.Total.kind xs in
     let at = trace_at g.K.Total.kind g.K.Total.columns c.args.totals.now c.loop-day.day c.index-totals-day.result (omega arith) c.index-totals-day.is in
     let e : c.loop-day.day + 1 ≡ suc c.loop-day.day = omega arith in
-    rw e (c.extended-at.ensures.laid (suc (length c.args.totals.now)) x c.loop-day.invariant.0 c.loop-day.invariant.1 (sym at) (omega arith))
+    rw e (c.extended-at.ensures.laid.laid (suc (length c.args.totals.now)) x c.loop-day.invariant.0 c.loop-day.invariant.1 (sym at) (omega arith))
 
 pub returns : goal.returns
 returns g c =
@@ -27,9 +27,9 @@ returns g c =
     let d : c.loop-day.day ≡ n = omega arith in
     let zero = (trace_outside g.K.Total.kind xs).1 (suc n) (simp length-map (omega arith)) in
     let f : n + 1 ≡ suc n = omega arith in
-    let A = c.extended-at-2.ensures.laid (suc n) x (rw d at c.loop-day.invariant.0) c.loop-day.invariant.1 (c.zero-outside.ensures ∙ sym zero) (omega arith) in
+    let A = c.ended-at.ensures.laid.laid (suc n) x (rw d at c.loop-day.invariant.0) c.loop-day.invariant.1 (sym zero) (omega arith) in
     record {
       knows = rw (c.set_run.ensures, f, A.1) (laid_known (suc n) x _ _ _ A.0);
       marks = rw c.set_run.ensures (laid_marks g.K.Total.kind g.met.K.Total.lawful (suc n) x _ _ _ A.0);
-      few = c.extended-at-2.ensures.marks;
+      few = c.ended-at.ensures.marks;
     }
