@@ -57,15 +57,17 @@ fn put_bytes(
 // The text that is written so.
 pub fn decoded(heap: Global, coded: &[u8]) -> Result<Vec<u8>, AllocError> {
     let mut text = Vec::new(heap);
-    let (plain, more) = cut(coded, b'{');
-    put_bytes(heap, &mut text, plain, 0)?;
-    for part in more.split(|byte| *byte == b'{') {
-        let (times, plain) = cut(part, b'}');
+    let mut left = coded;
+    // A round takes at least one byte while one is left, so this many rounds take all.
+    for _ in 0..coded.len() {
+        let (plain, more) = cut(left, b'{');
+        put_bytes(heap, &mut text, plain, 0)?;
+        let (times, rest) = cut(more, b'}');
         let (count, piece) = cut(times, b' ');
         for time in 1..=number_of(count) {
             put_bytes(heap, &mut text, piece, time)?;
         }
-        put_bytes(heap, &mut text, plain, 0)?;
+        left = rest;
     }
     Ok(text)
 }

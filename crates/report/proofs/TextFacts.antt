@@ -1,5 +1,5 @@
 -- Lemmas on the pulse text of a sheet.
-use Rattle.std.proofs.Common.{◌≡◌, ℕ, zero, suc, ◌+◌, ◌-◌, ◌<◌, ◌≤◌, Bool, List, [], ◌∷◌, ◌++◌, length, get_or, take, Some, None, Ok, Err, Option, Result, sym, refl, ap, ◌∙◌, subst, add-one, arith}
+use Rattle.std.proofs.Common.{◌≡◌, ℕ, zero, suc, ◌+◌, ◌-◌, ◌<◌, ◌≤◌, Bool, List, [], ◌∷◌, ◌++◌, length, get_or, slice_index_or, take, Some, None, Ok, Err, Option, Result, sym, refl, ap, ◌∙◌, subst, add-one, arith}
 use Rattle.std.proofs.lemmas.List.{append-nil, append_assoc, length-append, length-take-le, take_more, take_all}
 use Rattle.kinds.specs.Columns.{Arity, one, two, Columns, nought}
 use Rattle.kinds.specs.Kinds.{Kind, Of}
@@ -11,7 +11,7 @@ use Rattle.sheets.specs.declared.sheet.Stop.TheVariants.{Refused, Unreachable}
 use Rattle.sheets.specs.Takes.{State}
 use Rattle.sheets.specs.History.{Calls, Shows, Strays, row}
 use Rattle.sheets.specs.Standing.{unlisted}
-use Rattle.sheets.specs.Questions.{Listed}
+use Rattle.sheets.specs.Questions.{row_listed}
 use Rattle.shelves.specs.declared.row.Mark.{Mark}
 use Rattle.shelves.specs.declared.row.Mark.TheVariants.{In, Out}
 use Rattle.figures.specs.Headings.{letters}
@@ -30,10 +30,10 @@ marked In = refl
 marked Out = refl
 
 -- the line of a listed pulse
-pub listed_line : {V : Type 0} (K : Kind) (columns : V → Of K) (s : State) (n : ℕ) (p : ListedPulse V) → Listed K columns s n (Ok p) →
-    slot_line K s.slots n ≡ line shown (pulse_values K n p.stretch.width p.stretch.first (columns p.amount) p.mark)
-listed_line K columns s n p l =
-    ap (row_line K n) l.2
+pub listed_line : {V : Type 0} (K : Kind) (columns : V → Of K) (slots : List (Option Entry)) (n : ℕ) (p : ListedPulse V) → slice_index_or slots (n - 1) None ≡ Some (row_listed K columns p) →
+    slot_line K slots n ≡ line shown (pulse_values K n p.stretch.width p.stretch.first (columns p.amount) p.mark)
+listed_line K columns slots n p l =
+    ap (row_line K n) l
     ∙ (ap (λ x. line shown (pulse_values K n p.stretch.width p.stretch.first x (state (is_out p.mark)))) (unlisted_listed K.arity (columns p.amount))
     ∙ ap (λ v. line shown (pulse_values K n p.stretch.width p.stretch.first (columns p.amount) v)) (marked p.mark))
 

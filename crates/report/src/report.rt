@@ -144,6 +144,7 @@ fn pulses_of<K: Total>(
 }
 
 // Splits a record on a new sheet and writes the pulses.
+#[tactic(auto, using(std::proofs::lemmas::Grind::common_steps, crate::proofs::SplitFacts::taken_on, crate::proofs::SplitFacts::split_written))]
 fn split_and_write<K: Total, S: Shelf<K>>(
     sheet: &mut Sheet<K, S>,
     totals: &[K],

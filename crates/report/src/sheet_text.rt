@@ -119,6 +119,7 @@ fn write_line<K: Total, S: Shelf<K>>(
 }
 
 // What the line of the pulse of a number tells.
+#[tactic(auto, using(crate::proofs::TextFacts::listed_line))]
 fn line_of<K: Total, S: Shelf<K>>(sheet: &Sheet<K, S>, number: usize) -> Result<PulseLine<K>, Stop>
     requires { (1 ≤ number) × (number ≤ (state_of S.slots S.outside sheet.now).count) }
     ensures { LineGiven K.kind K.columns (state_of S.slots S.outside sheet.now) number result }

@@ -5,7 +5,7 @@ ghost use Rattle.shelves.specs.Slots.{shown, Put, Read};
 
 use crate::packing::{pack, slot_size, unpack};
 use crate::row::{NoSuchSlot, Row};
-use crate::shelf::Shelf;
+use crate::shelf::{OverBytes, Shelf};
 use kinds::Total;
 use std::marker::PhantomData;
 
@@ -106,5 +106,11 @@ impl<'a, K: Total> ByteShelf<'a, K> {
             bytes,
             kind: PhantomData,
         }
+    }
+}
+
+impl<'a, K: Total> OverBytes<'a, K> for ByteShelf<'a, K> {
+    fn over(bytes: &'a mut [u8]) -> ByteShelf<'a, K> {
+        ByteShelf::over(bytes)
     }
 }

@@ -14,5 +14,5 @@ pub use laws::put_then_read;
 pub use packing::slot_size;
 pub use row::{Mark, NoMark, NoSuchSlot, Row};
 pub use row_shelf::RowShelf;
-pub use shelf::Shelf;
+pub use shelf::{OverBytes, OverRows, Shelf};
 pub use stretch::Stretch;

@@ -3,7 +3,7 @@ ghost use Rattle.std.specs.Prelude.{◌≡◌, length, slice_set};
 ghost use Rattle.shelves.specs.Slots.{over_rows, shown, shown_rows, Put, Read};
 
 use crate::row::{NoSuchSlot, Row};
-use crate::shelf::Shelf;
+use crate::shelf::{OverRows, Shelf};
 use kinds::Total;
 
 // One slot a row.
@@ -76,5 +76,11 @@ impl<'a, K: Total> RowShelf<'a, K> {
         ensures rows { result.rows ≡ rows.entry }
     {
         RowShelf { rows }
+    }
+}
+
+impl<'a, K: Total> OverRows<'a, K> for RowShelf<'a, K> {
+    fn over(rows: &'a mut [Row<K>]) -> RowShelf<'a, K> {
+        RowShelf::over(rows)
     }
 }
