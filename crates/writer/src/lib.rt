@@ -5,5 +5,5 @@ mod bytes;
 mod value;
 mod writer;
 
-pub use value::{Shown, Value};
+pub use value::{Shown, Value, word_of};
 pub use writer::{Ended, Lines, Naming, Short, room_behind};

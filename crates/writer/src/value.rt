@@ -8,7 +8,7 @@ use itoa::Buffer;
 use shelves::Mark;
 
 // The word for a mark.
-fn word_of(mark: Mark) -> &'static [u8]
+pub fn word_of(mark: Mark) -> &'static [u8]
     ensures { result.now ≡ spelled mark }
 {
     match mark {
