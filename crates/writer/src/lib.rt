@@ -2,8 +2,9 @@
 #![tactic(auto)]
 
 mod bytes;
+mod digits;
 mod value;
 mod writer;
 
-pub use value::{Shown, Value};
+pub use value::{Shown, Value, word_of};
 pub use writer::{Ended, Lines, Naming, Short, room_behind};
