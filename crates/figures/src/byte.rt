@@ -17,9 +17,12 @@ pub(crate) fn class_of(b: u8) -> Class
 {
     match b as char {
         '0'..='9' => Class::Digit(b - b'0'),
-        '-' => Class::Minus,
-        ',' => Class::Comma,
-        '\n' => Class::LineFeed,
-        _ => Class::Other,
+        // a match of its own, so that a digit is known first
+        mark => match mark {
+            '-' => Class::Minus,
+            ',' => Class::Comma,
+            '\n' => Class::LineFeed,
+            _ => Class::Other,
+        },
     }
 }

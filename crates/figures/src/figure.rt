@@ -29,6 +29,7 @@ impl FigureReader {
         ensures { (bs : List ℕ) → outcome self.new bs ≡ outcome self.old (b ∷ bs) }
     {
         *self = match (*self, class_of(b)) {
+            (_, Class::Comma | Class::LineFeed | Class::Other) => FigureReader::Wrong,
             (FigureReader::Start, Class::Minus) => FigureReader::Signed,
             (FigureReader::Start, Class::Digit(0)) => FigureReader::Zero,
             // there is no -0
@@ -61,6 +62,9 @@ pub fn read_figure(bytes: &[u8]) -> Option<i64>
     let mut reader = FigureReader::Start;
     for b in bytes {
         reader.step(*b);
+        if let FigureReader::Wrong = reader {
+            return None;
+        }
     }
     reader.end()
 }

@@ -1,5 +1,5 @@
 // One line of values of a trace text.
-ghost use Rattle.std.specs.Prelude.{◌≡◌, ℕ, ◌+◌, ◌^◌, ◌<◌, ◌≤◌, length, Err};
+ghost use Rattle.std.specs.Prelude.{◌≡◌, ℕ, ◌+◌, ◌^◌, ◌<◌, ◌≤◌, length, Some, Err};
 ghost use Rattle.kinds.specs.Kinds.{Gives};
 ghost use Rattle.figures.specs.declared.heading.Heading.TheVariants.{Day};
 ghost use Rattle.figures.specs.Headings.{letters, heading, heading_if, first as first_of, second as second_of};
@@ -70,12 +70,20 @@ impl<'t> DayLine<'t> {
     {
         for (start, field) in Fields::of(self.values) {
             if read_figure(field).is_none() {
-                return Err(FieldFault::BadFigure {
-                    byte: self.start + start,
-                });
+                return Err(self.bad_figure(start));
             }
         }
         Ok(())
+    }
+
+    // The fault of the field that starts at this byte of the line.
+    fn bad_figure(&self, start: usize) -> FieldFault
+        requires { start ≤ length self.now.values.now }
+        ensures { Err result ≡ at_figure (Some (self.now.start + start)) }
+    {
+        FieldFault::BadFigure {
+            byte: self.start + start,
+        }
     }
 
     // That the line is that of the day, or else where its day stands.
