@@ -1,2 +1,3 @@
 pub mod WrittenFacts
 pub mod LineFacts
+pub mod DecimalFacts

@@ -2,6 +2,7 @@
 #![tactic(auto)]
 
 mod bytes;
+mod digits;
 mod value;
 mod writer;
 

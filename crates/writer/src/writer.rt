@@ -9,19 +9,11 @@ ghost use Rattle.writer.specs.Values.{line, shown};
 ghost use Rattle.writer.specs.Turns.{WriteTheNamesFirst, BeginAnotherText};
 ghost use Rattle.writer.specs.Written.{pasted, Leaves, Writes, Moves};
 
-use crate::bytes::{put_byte, put_bytes};
-use crate::value::{Shown, Value};
+use crate::bytes::put_byte;
+use crate::value::{Put, Shown, Value};
 use figures::Heading;
-use itoa::Buffer;
 use reading::{COMMA, LINE_FEED};
 use refusals::{FileFault, Refusal};
-
-// How many bytes an item takes, with the byte behind it.
-fn width_of<S: Shown>(item: &S) -> usize
-    ensures { result ≡ length (S.Shown.bytes item.now) + 1 }
-{
-    item.text(&mut Buffer::new()).len() + 1
-}
 
 // What is left of so many bytes behind a line of these items, or nothing where it does not fit.
 pub fn room_behind<S: Shown>(items: &[S], room: usize) -> Option<usize>
@@ -32,24 +24,30 @@ pub fn room_behind<S: Shown>(items: &[S], room: usize) -> Option<usize>
     }
     let mut left = room;
     for item in items {
-        left = left.checked_sub(width_of(item))?;
+        let width = item.width();
+        if left <= width {
+            return None;
+        }
+        left -= width + 1;
     }
     Some(left)
 }
 
 // Writes an item and the byte behind it.
-fn put_field<S: Shown>(item: &S, behind: u8, out: &mut [u8], at: usize) -> usize
+fn put_field<S: Put>(item: &S, behind: u8, out: &mut [u8], at: usize) -> usize
     requires { at + length (S.Shown.bytes item.now) + 1 ≤ length out.old }
     ensures bytes { out.new ≡ pasted at (S.Shown.bytes item.now ++ (behind ∷ [])) out.old }
     ensures end { result ≡ at + length (S.Shown.bytes item.now) + 1 }
 {
-    let end = put_bytes(out, at, item.text(&mut Buffer::new()));
+    let end = item.put(out, at);
     put_byte(out, end, behind);
     end + 1
 }
 
-// Writes a line of these items, and answers the place behind it.
-fn put_line<S: Shown>(items: &[S], out: &mut [u8], at: usize) -> usize
+// Writes a line of these items, and answers the place behind it. It is inlined, as those that call it
+// are, since most lines are of fields whose kinds are known where they are written.
+#[inline(always)]
+fn put_line<S: Put>(items: &[S], out: &mut [u8], at: usize) -> usize
     requires { at + length (line S.Shown.bytes items.now) ≤ length out.old }
     ensures bytes { out.new ≡ pasted at (line S.Shown.bytes items.now) out.old }
     ensures end { result ≡ at + length (line S.Shown.bytes items.now) }
@@ -66,7 +64,8 @@ fn put_line<S: Shown>(items: &[S], out: &mut [u8], at: usize) -> usize
 }
 
 // Writes a line of these items if it fits, and answers the place behind it.
-fn write_line<S: Shown>(items: &[S], out: &mut [u8], at: usize) -> Option<usize>
+#[inline(always)]
+fn write_line<S: Put>(items: &[S], out: &mut [u8], at: usize) -> Option<usize>
     ensures { Writes at (line S.Shown.bytes items.now) out.old out.new result }
 {
     let room = out.len().checked_sub(at)?;
@@ -123,6 +122,7 @@ impl Naming {
     }
 
     // Writes the names line.
+    #[inline(always)]
     pub fn names(self, names: &[Heading], out: &mut [u8]) -> Result<Lines, Short<Naming>>
         ensures { Moves self.at (line letters names.now) out.old out.new (told (λ s. s.at) (λ e. e.state.at) result) }
     {
@@ -144,6 +144,7 @@ impl Naming {
 
 impl Lines {
     // Writes a line of values.
+    #[inline(always)]
     pub fn line(self, values: &[Value], out: &mut [u8]) -> Result<Lines, Short<Lines>>
         ensures { Moves self.at (line shown values.now) out.old out.new (told (λ s. s.at) (λ e. e.state.at) result) }
     {
