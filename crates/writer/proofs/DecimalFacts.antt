@@ -13,6 +13,21 @@ decimal_length (suc k) n lo hi fits =
     let rest = decimal_length k (n / 10) (omega arith) (omega arith) (omega arith) in
     omega arith
 
+-- the same by the bounds of short numbers
+pub one_digit : (n : ℕ) → n < 10 → length (decimal n) ≡ 1
+one_digit n hi = ap length (decimal_digit n hi)
+
+pub two_digits : (n : ℕ) → 10 ≤ n → n < 100 → length (decimal n) ≡ 2
+two_digits n lo hi = decimal_length 1 n lo hi (omega arith)
+
+pub three_digits : (n : ℕ) → 100 ≤ n → n < 1000 → length (decimal n) ≡ 3
+three_digits n lo hi = decimal_length 2 n lo hi (omega arith)
+
+pub four_digits : (n : ℕ) → 1000 ≤ n → n < 10000 → length (decimal n) ≡ 4
+four_digits n lo hi = decimal_length 3 n lo hi (omega arith)
+
+pub ruleset digit_counts = (decimal_length, one_digit, two_digits, three_digits, four_digits)
+
 pub minus_first : (z : ℤ) → lt_z z (pos 0) ≡ true → signed_decimal z ≡ 45 ∷ decimal (nat_abs z)
 minus_first (pos n) h = absurd (omega (arith, ltb-true n 0 h))
 minus_first (negsuc n) h = refl

@@ -8,16 +8,18 @@ use itoa::write_digits;
 
 const MINUS: u8 = b'-';
 
-// How many digits a number has.
-#[tactic(auto, using(std::proofs::lemmas::Fmt::decimal_digit, crate::proofs::DecimalFacts::decimal_length))]
+// How many digits a number has. The lengths that most numbers have are told by their bounds alone.
+#[tactic(auto, using(crate::proofs::DecimalFacts::digit_counts))]
 pub(crate) fn count_digits(number: u64) -> usize
     ensures count { result ≡ length (decimal number) }
     ensures few { result ≤ 20 }
 {
-    if number < 10 {
-        1
-    } else {
-        number.ilog10() as usize + 1
+    match number {
+        0..=9 => 1,
+        10..=99 => 2,
+        100..=999 => 3,
+        1000..=9999 => 4,
+        _ => number.ilog10() as usize + 1,
     }
 }
 

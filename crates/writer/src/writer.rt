@@ -24,7 +24,11 @@ pub fn room_behind<S: Shown>(items: &[S], room: usize) -> Option<usize>
     }
     let mut left = room;
     for item in items {
-        left = left.checked_sub(item.width())?.checked_sub(1)?;
+        let width = item.width();
+        if left <= width {
+            return None;
+        }
+        left -= width + 1;
     }
     Some(left)
 }
