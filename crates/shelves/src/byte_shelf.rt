@@ -110,7 +110,11 @@ impl<'a, K: Total> ByteShelf<'a, K> {
 }
 
 impl<'a, K: Total> OverBytes<'a, K> for ByteShelf<'a, K> {
-    fn over(bytes: &'a mut [u8]) -> ByteShelf<'a, K> {
+    fn over(bytes: &'a mut [u8]) -> ByteShelf<'a, K>
+        ensures slots { shown_bytes K.kind result.bytes.now ≡ shown_bytes K.kind bytes.old }
+        ensures outside { over_bytes K.kind result.bytes ≡ over_bytes K.kind bytes.entry }
+        ensures bytes { result.bytes ≡ bytes.entry }
+    {
         ByteShelf::over(bytes)
     }
 }

@@ -80,7 +80,11 @@ impl<'a, K: Total> RowShelf<'a, K> {
 }
 
 impl<'a, K: Total> OverRows<'a, K> for RowShelf<'a, K> {
-    fn over(rows: &'a mut [Row<K>]) -> RowShelf<'a, K> {
+    fn over(rows: &'a mut [Row<K>]) -> RowShelf<'a, K>
+        ensures slots { shown_rows K.kind K.columns result.rows.now ≡ shown_rows K.kind K.columns rows.old }
+        ensures outside { over_rows result.rows ≡ over_rows rows.entry }
+        ensures rows { result.rows ≡ rows.entry }
+    {
         RowShelf::over(rows)
     }
 }
